@@ -1,0 +1,5 @@
+use Rattle.elan_text.proofs.Fronts.{consumes_next}
+use Rattle.elan_text.proofs.steady.SteadySourceSource.read.Goals as goal
+
+pub returns-clause-gives : goal.returns-clause-gives
+returns-clause-gives c = consumes_next _ _ _ _ _ c.as_slice.ensures.value c.fill-count.ensures.copied

@@ -1,0 +1,12 @@
+use Rattle.std.proofs.Common.{◌≤◌, length, ◌+◌, ◌-◌}
+use Rattle.elan_text.specs.Streams.{Consumes}
+use Rattle.elan_text.proofs.whole.read_all.Given as goal
+
+-- the source is past what was found so far, and its count of faults did not fall
+abbrev pub invariant-reads : goal.invariant-reads
+invariant-reads g l =
+    Consumes (g.S.Source.left l.fn.source) l.found.items (g.S.Source.left l.source)
+    × (g.S.Source.failures l.fn.source ≤ g.S.Source.failures l.source)
+
+abbrev pub decreases-reads : goal.decreases-reads
+decreases-reads g l = l.fn.max + 1 - length l.found.items

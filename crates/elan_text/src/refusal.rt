@@ -1,0 +1,68 @@
+//! Where and why a text is refused.
+
+ghost use Rattle.std.specs.Prelude.{◌≡◌};
+ghost use Rattle.elan_text.specs.declared.refusal.Stop.TheVariants.{NoMemory as OutOfMemory, Refused};
+
+use crate::Name;
+use std::alloc::{AllocError, AllocFailed};
+
+/// A place in a text: a line and a column, both counted from 1. A column counts bytes.
+#[derive(Clone, Copy, Debug, PartialEq, Eq)]
+pub struct Place {
+    pub line: u32,
+    pub column: u32,
+}
+
+/// Why a text is refused. docs/LANGUAGE.md has the words of each code.
+#[derive(Clone, Copy, Debug, PartialEq, Eq)]
+pub enum Code {
+    /// The input is too long.
+    E01,
+    /// A byte that no token and no white space has.
+    E02,
+    /// A comment is not closed.
+    E03,
+    /// A number is past 9,223,372,036,854,775,807.
+    E04,
+    /// A form of the language that is not built yet.
+    E99,
+}
+
+/// One refusal: the code, its place, and the loaded module in whose text that place lies, if it is not the stream's.
+#[derive(Debug, Drop)]
+pub struct Refusal {
+    pub code: Code,
+    pub at: Place,
+    pub module: Option<Name>,
+}
+
+/// What stops work on a text: the text, or the machine.
+#[derive(Debug, Drop)]
+pub enum Stop {
+    Refused(Refusal),
+    NoMemory,
+}
+
+impl From<Refusal> for Stop {
+    ghost from_gives = { λ refusal e. e ≡ Refused refusal };
+
+    fn from(refusal: Refusal) -> Stop {
+        Stop::Refused(refusal)
+    }
+}
+
+impl From<AllocError> for Stop {
+    ghost from_gives = { λ _ e. e ≡ OutOfMemory };
+
+    fn from(_: AllocError) -> Stop {
+        Stop::NoMemory
+    }
+}
+
+impl<T: Drop> From<AllocFailed<T>> for Stop {
+    ghost from_gives = { λ _ e. e ≡ OutOfMemory };
+
+    fn from(_: AllocFailed<T>) -> Stop {
+        Stop::NoMemory
+    }
+}

@@ -1,0 +1,11 @@
+pub mod Steps
+pub mod Exact
+pub mod Choices
+pub mod Lengths
+pub mod Loops
+pub mod Spans
+pub mod Ends
+pub mod Nested
+pub mod Takes
+pub mod Texts
+pub mod Marks

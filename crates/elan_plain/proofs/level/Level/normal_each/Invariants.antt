@@ -1,0 +1,10 @@
+use Rattle.std.proofs.Common.{◌≡◌, ◌++◌, drop}
+use Rattle.elan_meaning.specs.Items.{on_results}
+use Rattle.elan_plain.specs.Level as spec
+use Rattle.elan_plain.proofs.level.Level.normal_each.Given as goal
+
+-- the list so far and that of the items that are left make all
+abbrev pub invariant-loop-item : goal.invariant-loop-item
+invariant-loop-item g l =
+    l.out ++ on_results (drop l.item-index l.item-items) (spec.normal_term l.world l.self.level)
+    ≡ on_results l.item-items (spec.normal_term l.world l.self.level)

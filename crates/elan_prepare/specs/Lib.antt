@@ -1,0 +1,5 @@
+pub mod Words
+pub mod Declarations
+pub mod Programs
+pub mod Asked
+pub mod Prepared

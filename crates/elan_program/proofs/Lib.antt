@@ -1,0 +1,4 @@
+pub mod StrategyLemmas
+pub mod StrategyWeights
+pub mod ShiftLemmas
+pub mod ShapeLemmas

@@ -1,0 +1,4 @@
+pub mod Signature
+pub mod Strategies
+pub mod Extension
+pub mod Builtins

@@ -1,0 +1,5 @@
+use Rattle.elan_run.proofs.Verdicts.{one_report}
+use Rattle.elan_run.proofs.laws.one_report.Goals as goal
+
+pub returns : goal.returns
+returns c = one_report

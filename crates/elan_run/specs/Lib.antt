@@ -1,0 +1,4 @@
+pub mod Exit
+pub mod Lines
+pub mod Verdict
+pub mod Runs

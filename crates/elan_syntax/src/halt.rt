@@ -1,0 +1,28 @@
+//! Why reading stops before its end.
+
+ghost use Rattle.std.specs.Prelude.{◌≡◌, ◌++◌, ◌∷◌, [], false, IfOk, IfErr};
+ghost use Rattle.elan_syntax.specs.Input.{is_misfit};
+
+use elan_forms::Why;
+use sqlite_items::Items;
+
+/// Why reading stops before its end.
+#[derive(Clone, Copy, Debug)]
+pub enum Halt {
+    /// The next token is refused.
+    Misfit(Why),
+    /// The machine had no memory to give.
+    NoMemory,
+}
+
+/// The items with one more at their end.
+pub fn pushed<T: Drop>(items: Items<T>, item: T) -> Result<Items<T>, Halt>
+    ensures ok { IfOk result (λ found. found ≡ items ++ item ∷ []) }
+    ensures err { IfErr result (λ halt. is_misfit halt ≡ false) }
+{
+    let mut items = items;
+    match items.push(item) {
+        Ok(()) => Ok(items),
+        Err(_) => Err(Halt::NoMemory),
+    }
+}

@@ -1,0 +1,116 @@
+//! The parts of a text, as numbers of its tokens.
+
+use sqlite_items::Items;
+
+/// The tokens from one number up to but not including another. Numbers count from 0.
+#[derive(Clone, Copy, Debug, PartialEq, Eq)]
+pub struct Span {
+    pub first: u32,
+    pub past: u32,
+}
+
+/// A whole text: its modules, the `LPL` text and the query.
+#[derive(Debug, Drop)]
+pub struct Outline {
+    pub modules: Items<ModuleOutline>,
+    pub lpl: LplOutline,
+    pub query: Span,
+}
+
+/// A module, with its parts in the order of the text.
+#[derive(Debug, Drop)]
+pub struct ModuleOutline {
+    /// The token that is the module's name.
+    pub name: u32,
+    /// The tokens that are the names of its parameters.
+    pub parameters: Items<u32>,
+    pub sections: Items<Section>,
+}
+
+/// A section of a module, with its parts in the order of the text.
+#[derive(Debug, Drop)]
+pub enum Section {
+    /// References to other modules.
+    Imports(Items<Span>),
+    /// Sort expressions.
+    Sorts(Items<Span>),
+    Operators(Items<OpDecl>),
+    /// The variables and the rules for a sort.
+    Rules {
+        sort: Span,
+        vars: Items<Vars>,
+        rules: Items<RuleOutline>,
+    },
+    /// The named strategies for a sort.
+    Strategies {
+        sort: Span,
+        definitions: Items<Definition>,
+    },
+}
+
+/// A declaration of an operator.
+#[derive(Debug, Drop)]
+pub struct OpDecl {
+    /// What stands before the `:`.
+    pub spelling: Span,
+    /// The sorts of the arguments.
+    pub args: Items<Span>,
+    /// The sort of the operator.
+    pub sort: Span,
+    /// What stands between the sort and the `;`, which may be nothing.
+    pub attributes: Span,
+}
+
+/// A declaration of variables of one sort.
+#[derive(Debug, Drop)]
+pub struct Vars {
+    /// The tokens that are their names, at least one.
+    pub names: Items<u32>,
+    pub sort: Span,
+}
+
+/// A rule.
+#[derive(Debug, Drop)]
+pub struct RuleOutline {
+    /// The token `[` with which it begins.
+    pub at: u32,
+    /// The token that is its label.
+    pub label: Option<u32>,
+    pub left: Span,
+    pub right: Span,
+    pub clauses: Items<ClauseOutline>,
+}
+
+/// A clause of a rule.
+#[derive(Clone, Copy, Debug, PartialEq, Eq)]
+pub enum ClauseOutline {
+    /// The pattern, the strategy without its parentheses, and the term to which it is applied.
+    Where {
+        left: Span,
+        by: Option<Span>,
+        of: Span,
+    },
+    If(Span),
+}
+
+/// A definition of a strategy.
+#[derive(Clone, Copy, Debug, PartialEq, Eq)]
+pub struct Definition {
+    /// The token `[` with which it begins.
+    pub at: u32,
+    /// The token that is its name.
+    pub name: u32,
+    /// The strategy that it names.
+    pub by: Span,
+}
+
+/// The `LPL` text, which says what may be asked.
+#[derive(Debug, Drop)]
+pub struct LplOutline {
+    pub query_sort: Span,
+    pub result_sort: Span,
+    /// References to modules, at least one.
+    pub imports: Items<Span>,
+    /// The strategy without its parentheses, where it is not empty.
+    pub start: Option<Span>,
+}

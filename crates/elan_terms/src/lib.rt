@@ -1,0 +1,28 @@
+//! Terms and patterns over numbered operators: order, canonical form, parts and matches.
+#![tactic(auto)]
+
+mod assignment;
+mod canonical;
+mod copies;
+mod matching;
+mod measure;
+mod occurrence;
+mod order;
+mod pieces;
+mod sorts;
+#[cfg(test)]
+mod tests;
+mod tree;
+
+pub use canonical::{canon, is_ac, node};
+pub use copies::{copy, copy_onto, copy_pattern};
+pub use matching::matches;
+pub use measure::{depth, is_deeper};
+pub use occurrence::variables;
+pub use order::compare;
+pub use pieces::parts;
+pub use sorts::{is_of_sort, sort_of};
+pub use tree::{OpId, Pattern, PatternNode, Shape, Shapes, SortId, Term, TermNode};
+
+/// Memory ran out, as std says it.
+pub type NoMemory = std::alloc::AllocError;

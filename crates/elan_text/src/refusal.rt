@@ -24,6 +24,42 @@ pub enum Code {
     E03,
     /// A number is past 9,223,372,036,854,775,807.
     E04,
+    /// A token after whose predecessors no text of the language goes on with it, or the text ends too early.
+    E05,
+    /// A module that nobody has.
+    E06,
+    /// A module with another number of arguments than it has parameters.
+    E07,
+    /// A module that imports itself by way of others.
+    E08,
+    /// A name that two modules have.
+    E09,
+    /// A sort that is not declared.
+    E10,
+    /// An operator with another number of holes than argument sorts.
+    E11,
+    /// An associative and commutative operator whose two argument sorts are not its own sort.
+    E12,
+    /// Operators without a spelling that lead a sort back to itself.
+    E13,
+    /// More of something than a limit allows.
+    E14,
+    /// A text that is no term of the sort that is wanted.
+    E15,
+    /// A text that can be read as two different terms.
+    E16,
+    /// A text of more than 256 tokens.
+    E17,
+    /// A variable that nothing has bound.
+    E18,
+    /// A variable that is bound a second time.
+    E19,
+    /// A name that no strategy and no rule has.
+    E20,
+    /// A name that is declared twice.
+    E21,
+    /// A strategy for another sort than the one wanted.
+    E22,
     /// A form of the language that is not built yet.
     E99,
 }

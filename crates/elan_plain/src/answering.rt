@@ -88,7 +88,7 @@ pub fn plain_items(
 {
     let world = World {
         program,
-        shapes: program.signature.shapes(alloc)?,
+        shapes: program.signature().shapes(alloc)?,
         tried: unlabelled(alloc, program)?,
     };
     items(alloc, &world, start, query, steps)

@@ -78,7 +78,7 @@ impl<F: Fn(Global, u32, &World<'_>, Ask<'_>, u32) -> Result<Items<Item>, NoMemor
         match item {
             Item::Mark(cause) => stop(self.alloc, cause),
             Item::Res(term, m) => {
-                if is_true(&world.program.signature.truth, &term) {
+                if is_true(&world.program.signature().truth, &term) {
                     self.clauses(world, rest, values, m)
                 } else {
                     Ok(Items::new(self.alloc))

@@ -129,7 +129,7 @@ impl<F: Fn(Global, u32, &World<'_>, Ask<'_>, u32) -> Result<Items<Item>, NoMemor
         if is_deeper(&term, MAX_DEPTH) {
             return Ok(Item::Mark(Cause::Depth));
         }
-        let value = reduced(self.alloc, &world.program.signature, term);
+        let value = reduced(self.alloc, world.program.signature(), term);
         let items = self.tried(world, world.tried.as_slice(), &value, n)?;
         first_or(self.alloc, items.as_slice(), Item::Res(value, n))
     }

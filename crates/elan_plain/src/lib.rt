@@ -9,8 +9,6 @@ mod lists;
 mod normalising;
 mod positions;
 mod strategies;
-#[cfg(test)]
-mod tests;
 mod world;
 
 pub use answering::plain_items;

@@ -29,7 +29,7 @@ impl<F: Fn(Global, u32, &World<'_>, Ask<'_>, u32) -> Result<Items<Item>, NoMemor
         requires world { IsWorld world.now }
         ensures { IfOk result (λ items. items ≡ spec.apply_number world.now self.now.level term.now n number) }
     {
-        match world.program.rules.get(number as usize) {
+        match world.program.rules().get(number as usize) {
             None => Ok(Items::new(self.alloc)),
             Some(rule) => self.apply(world, rule, term, n),
         }
@@ -68,7 +68,7 @@ impl<F: Fn(Global, u32, &World<'_>, Ask<'_>, u32) -> Result<Items<Item>, NoMemor
         if n == 0 {
             return mark(self.alloc, Cause::Steps);
         }
-        match world.program.named.get(number as usize) {
+        match world.program.named().get(number as usize) {
             None => Ok(Items::new(self.alloc)),
             Some(named) => self.ask(world, Ask::Run(&named.body, term), n - 1),
         }

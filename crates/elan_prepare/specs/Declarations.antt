@@ -1,5 +1,5 @@
 -- What the sections of a module declare: sorts, operators and rules.
-use Rattle.std.specs.Prelude.{ℕ, ◌+◌, ◌==◌, Bool, true, false, ◌&&◌, if◌then◌else◌, Option, Some, None, List, [], ◌∷◌, map, length, codes}
+use Rattle.std.specs.Prelude.{ℕ, ◌==◌, Bool, true, false, ◌&&◌, ◌||◌, if◌then◌else◌, Option, Some, None, List, [], ◌∷◌, map, length, codes}
 use Rattle.std.specs.List.{flat_map, list_all, position}
 use Rattle.std.specs.Option.{option_and_then, option_map}
 use Rattle.std.specs.Str.{bytes_eq}
@@ -12,6 +12,8 @@ use Rattle.elan_program.specs.declared.signature.Assoc.TheVariants as assoc
 use Rattle.elan_program.specs.declared.signature.Operator.{Operator}
 use Rattle.elan_program.specs.declared.program.Rule.{Rule}
 use Rattle.elan_program.specs.Extension.{app_pattern}
+use Rattle.elan_program.specs.Spelling.{is_name}
+use Rattle.elan_program.specs.Soundness.{holes}
 use Rattle.elan_syntax.specs.declared.parts.Span.{Span}
 use Rattle.elan_syntax.specs.declared.parts.Section.{Section}
 use Rattle.elan_syntax.specs.declared.parts.Section.TheVariants as section
@@ -58,16 +60,6 @@ sort_at words sorts span = option_and_then (sort_called sorts) (only_word words 
 abbrev pub piece_of : Word → Piece
 piece_of word = if bytes_eq word (codes "@") then piece.Hole else piece.Word (name_of word)
 
--- 1 for the place of an argument, and 0 for a word
-abbrev pub hole_count : Piece → ℕ
-hole_count piece.Hole = 1
-hole_count (piece.Word name) = 0
-
--- how many places for arguments a spelling has
-abbrev pub holes_in : List Piece → ℕ
-holes_in [] = 0
-holes_in (p ∷ ps) = hole_count p + holes_in ps
-
 -- an operator of these parts, without priority and associativity
 abbrev pub plain_operator : List Piece → List SortId → SortId → Operator
 plain_operator pieces args sort =
@@ -81,9 +73,35 @@ plain_operator pieces args sort =
       builtin = None;
     }
 
--- the operator, where it has as many places for arguments as sorts of arguments
+-- the piece is this word
+abbrev pub is_word : Word → Piece → Bool
+is_word word piece.Hole = false
+is_word word (piece.Word name) = is_named word name
+
+-- whether this is the last piece and is `)`
+abbrev pub is_closed : Piece → List Piece → Bool
+is_closed p [] = is_word (codes ")") p
+is_closed p (q ∷ ps) = false
+
+-- "@" { "," "@" } ")"
+abbrev pub are_holes : List Piece → Bool
+are_holes (piece.Hole ∷ p ∷ ps) = is_closed p ps || (is_word (codes ",") p && are_holes ps)
+are_holes _ = false
+
+-- [ "(" "@" { "," "@" } ")" ]
+abbrev pub are_some_holes : List Piece → Bool
+are_some_holes [] = true
+are_some_holes (p ∷ ps) = is_word (codes "(") p && are_holes ps
+
+-- NAME [ "(" "@" { "," "@" } ")" ]
+abbrev pub is_plain_spelling : List Piece → Bool
+is_plain_spelling (piece.Word name ∷ ps) = is_name name.bytes && are_some_holes ps
+is_plain_spelling _ = false
+
+-- the operator, where its spelling is a name that may have places for arguments in brackets behind it, and there are as
+-- many of these as sorts of arguments
 abbrev pub fitting : Operator → Option Operator
-fitting o = if holes_in o.pieces == length o.args then Some o else None
+fitting o = if is_plain_spelling o.pieces && holes o.pieces == length o.args then Some o else None
 
 -- the pieces of a declaration's spelling, one for each word
 abbrev pub pieces_of : List Word → OpDecl → List Piece
@@ -95,8 +113,8 @@ operator_over words sorts d args =
     option_and_then (λ sort. fitting (plain_operator (pieces_of words d) args sort))
     (sort_at words sorts d.sort)
 
--- the operator of a declaration without attributes, where all of its sorts are declared and it has
--- as many places for arguments as sorts of arguments
+-- the operator of a declaration without attributes, where all of its sorts are declared, its spelling is plain, and it
+-- has as many places for arguments as sorts of arguments
 unfoldable pub operator_of : List Word → List Name → OpDecl → Option Operator
 operator_of words sorts d =
     without (words_in words d.attributes)
@@ -128,11 +146,6 @@ abbrev pub operator_name : Operator → Word
 operator_name o = first_word o.pieces
 
 -- ---- rules
-
--- the piece is this word
-abbrev pub is_word : Word → Piece → Bool
-is_word word piece.Hole = false
-is_word word (piece.Word name) = is_named word name
 
 -- the spelling is this word alone
 abbrev pub is_spelled : Word → List Piece → Bool

@@ -7,7 +7,7 @@ ghost use Rattle.elan_prepare.specs.Declarations as spec;
 ghost use Rattle.elan_prepare.specs.Words.{is_named as is_called, has_one, noted_all, all_there, with_front, answered, differ};
 
 use crate::words::{Words, is_named, is_same, note};
-use elan_program::{Assoc, Operator, Piece};
+use elan_program::{Assoc, Operator, Piece, holes, is_name};
 use elan_syntax::{OpDecl, Section, Span};
 use elan_terms::SortId;
 use elan_text::{Name, NoMemory};
@@ -158,39 +158,70 @@ fn pieces_of(alloc: Global, words: Words<'_>) -> Result<Items<Piece>, NoMemory>
     Ok(pieces)
 }
 
-fn hole_count(piece: &Piece) -> usize
-    ensures value { result ≡ spec.hole_count piece.now }
-    ensures small { result ≤ 1 }
+/// Whether the piece is this word.
+pub fn is_word(word: &[u8], piece: &Piece) -> bool
+    ensures { result ≡ spec.is_word word.now piece.now }
 {
     match piece {
-        Piece::Hole => 1,
-        Piece::Word(_) => 0,
+        Piece::Hole => false,
+        Piece::Word(name) => is_named(word, name),
     }
 }
 
-/// How many places for arguments a spelling has.
-fn holes_in(pieces: &[Piece]) -> usize
-    ensures { result ≡ spec.holes_in pieces.now }
+fn is_closed(piece: &Piece, more: &[Piece]) -> bool
+    ensures { result ≡ spec.is_closed piece.now more.now }
 {
-    let mut holes = 0;
-    for piece in pieces {
-        holes += hole_count(piece);
+    match more {
+        [] => is_word(b")", piece),
+        [_, ..] => false,
     }
-    holes
+}
+
+/// `"@" { "," "@" } ")"`
+fn are_holes(pieces: &[Piece]) -> bool
+    ensures { result ≡ spec.are_holes pieces.now }
+{
+    match pieces {
+        [Piece::Hole, piece, more @ ..] => {
+            is_closed(piece, more) || (is_word(b",", piece) && are_holes(more))
+        }
+        _ => false,
+    }
+}
+
+/// `[ "(" "@" { "," "@" } ")" ]`
+fn are_some_holes(pieces: &[Piece]) -> bool
+    ensures { result ≡ spec.are_some_holes pieces.now }
+{
+    match pieces {
+        [] => true,
+        [first, more @ ..] => is_word(b"(", first) && are_holes(more),
+    }
+}
+
+/// `NAME [ "(" "@" { "," "@" } ")" ]`
+fn is_plain_spelling(pieces: &[Piece]) -> bool
+    ensures { result ≡ spec.is_plain_spelling pieces.now }
+{
+    match pieces {
+        [Piece::Word(name), more @ ..] => is_name(name.as_bytes()) && are_some_holes(more),
+        _ => false,
+    }
 }
 
 fn fitting(operator: Operator) -> Option<Operator>
     ensures { result ≡ spec.fitting operator }
 {
-    if holes_in(operator.pieces.as_slice()) == operator.args.len() {
+    let pieces = operator.pieces.as_slice();
+    if is_plain_spelling(pieces) && holes(pieces) == operator.args.len() {
         Some(operator)
     } else {
         None
     }
 }
 
-/// The operator of a declaration without attributes, where all of its sorts are declared and it has
-/// as many places for arguments as sorts of arguments.
+/// The operator of a declaration without attributes, where all of its sorts are declared, its spelling is plain, and it
+/// has as many places for arguments as sorts of arguments.
 #[tactic(auto, unfolding(crate::specs::Declarations::operator_of))]
 fn operator_of(
     alloc: Global,

@@ -133,7 +133,7 @@ fn prepared_in(
 {
     match sort_at(
         words,
-        program.signature.sorts.as_slice(),
+        program.signature().sorts.as_slice(),
         outline.lpl.query_sort,
     ) {
         Some(sort) => prepared_at(alloc, words, outline, program, sort),
@@ -154,17 +154,10 @@ fn prepared_at(
     requires rules { length program.rules ≤ 8192 }
     ensures { IfOk result (λ r. r ≡ spec.prepared_at words.now outline.now program sort) }
 {
-    let Some(start) = start_of(
-        alloc,
-        words,
-        program.rules.as_slice(),
-        sort,
-        outline.lpl.start,
-    )?
-    else {
+    let Some(start) = start_of(alloc, words, program.rules(), sort, outline.lpl.start)? else {
         return Ok(None);
     };
-    let operators = program.signature.operators.as_slice();
+    let operators = program.signature().operators.as_slice();
     let Some(query) = constant_at(alloc, words, operators, sort, outline.query) else {
         return Ok(None);
     };

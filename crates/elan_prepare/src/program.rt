@@ -1,6 +1,7 @@
 //! The program that a module declares.
 
 ghost use Rattle.std.specs.Prelude.{◌≡◌, ◌≤◌, IfOk, IfSome, length};
+ghost use Rattle.elan_program.specs.Validity.{IsValid};
 ghost use Rattle.elan_prepare.specs.Programs as spec;
 
 use crate::declared::{names_differ, operators_of, sorts_of};
@@ -80,22 +81,24 @@ fn signature_of(
 
 /// The program of this signature and these rules, where the rules are not too many.
 #[tactic(auto, unfolding(crate::specs::Programs::program_with))]
-fn program_with(alloc: Global, signature: Signature, rules: Items<Rule>) -> Option<Program>
+fn program_with(
+    alloc: Global,
+    signature: Signature,
+    rules: Items<Rule>,
+) -> Result<Option<Program>, NoMemory>
     requires sorts { length signature.sorts ≤ 4096 }
     requires operators { length signature.operators ≤ 4096 }
-    ensures value { result ≡ spec.program_with signature rules }
-    ensures sorts { IfSome result (λ p. length p.signature.sorts ≤ 4096) }
-    ensures operators { IfSome result (λ p. length p.signature.operators ≤ 4096) }
-    ensures rules { IfSome result (λ p. length p.rules ≤ 8192) }
+    requires valid { length rules ≤ 8192 → IsValid (spec.plain_program signature rules) }
+    ensures value { IfOk result (λ r. r ≡ spec.program_with signature rules) }
+    ensures sorts { IfOk result (λ r. IfSome r (λ p. length p.signature.sorts ≤ 4096)) }
+    ensures operators { IfOk result (λ r. IfSome r (λ p. length p.signature.operators ≤ 4096)) }
+    ensures rules { IfOk result (λ r. IfSome r (λ p. length p.rules ≤ 8192)) }
 {
     if rules.len() > MOST_RULES {
-        return None;
+        return Ok(None);
     }
-    Some(Program {
-        signature,
-        rules,
-        named: Items::new(alloc),
-    })
+    let program = Program::new(alloc, signature, rules, Items::new(alloc))?;
+    Ok(Some(program))
 }
 
 /// The program that a module declares.
@@ -115,7 +118,7 @@ pub fn program_of(
     };
     let (sorts, operators) = (signature.sorts.as_slice(), signature.operators.as_slice());
     match rules_of(alloc, words, sorts, operators, sections)? {
-        Some(rules) => Ok(program_with(alloc, signature, rules)),
+        Some(rules) => program_with(alloc, signature, rules),
         None => Ok(None),
     }
 }

@@ -5,23 +5,14 @@ ghost use Rattle.std.specs.List.{position};
 ghost use Rattle.elan_prepare.specs.Declarations as spec;
 ghost use Rattle.elan_prepare.specs.Words.{all_there, with_front, answered};
 
-use crate::declared::sort_at;
-use crate::words::{Words, is_named};
+use crate::declared::{is_word, sort_at};
+use crate::words::Words;
 use elan_program::{Operator, Piece, Rule};
 use elan_syntax::{RuleOutline, Section, Span, Vars};
 use elan_terms::{OpId, Pattern, PatternNode, SortId};
 use elan_text::{Name, NoMemory};
 use sqlite_items::Items;
 use std::alloc::Global;
-
-fn is_word(word: &[u8], piece: &Piece) -> bool
-    ensures { result ≡ spec.is_word word.now piece.now }
-{
-    match piece {
-        Piece::Hole => false,
-        Piece::Word(name) => is_named(word, name),
-    }
-}
 
 fn is_spelled(word: &[u8], pieces: &[Piece]) -> bool
     ensures { result ≡ spec.is_spelled word.now pieces.now }

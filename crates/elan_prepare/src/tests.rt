@@ -140,7 +140,7 @@ fn labelled(strategy: &Strategy) -> &[u32] {
 #[test]
 fn two_labelled_rules_are_both_asked(rt: HostRuntime) -> Result<(), Fail> {
     let asked = asked(rt.alloc(), 0, "module")?.ok_or("the text is of the first form")?;
-    let signature = &asked.program.signature;
+    let signature = asked.program.signature();
     assert_eq!(rt; signature.sorts.len(), 1);
     assert_eq!(rt; signature.sorts.as_slice()[0].as_bytes(), b"s".as_slice());
     assert!(rt; signature.int.is_none() && signature.truth.is_none());
@@ -153,15 +153,15 @@ fn two_labelled_rules_are_both_asked(rt: HostRuntime) -> Result<(), Fail> {
         assert_eq!(rt; operator.args.len(), args[number]);
     }
     let wanted = [(b"ab".as_slice(), 1), (b"ac".as_slice(), 2)];
-    assert_eq!(rt; asked.program.rules.len(), wanted.len());
-    for (rule, (label, right)) in asked.program.rules.as_slice().iter().zip(wanted) {
+    assert_eq!(rt; asked.program.rules().len(), wanted.len());
+    for (rule, (label, right)) in asked.program.rules().iter().zip(wanted) {
         let name = rule.label.as_ref().ok_or("the rule has a label")?;
         assert_eq!(rt; name.as_bytes(), label);
         assert_eq!(rt; constant(&rule.left), Some(0));
         assert_eq!(rt; constant(&rule.right), Some(right));
         assert!(rt; rule.clauses.is_empty());
     }
-    assert!(rt; asked.program.named.is_empty());
+    assert!(rt; asked.program.named().is_empty());
     assert_eq!(rt; constant(&asked.query), Some(0));
     Ok(())
 }

@@ -165,6 +165,21 @@ pub fn extension(
     }
 }
 
+/// The extension of each rule, or `None` where it has none.
+pub(crate) fn extensions(
+    alloc: Global,
+    signature: &Signature,
+    rules: &[Rule],
+) -> Result<Items<Option<Rule>>, NoMemory>
+    ensures { IfOk result (λ all. all ≡ map (spec.extension signature.now) rules.now) }
+{
+    let mut out = Items::new(alloc);
+    for rule in rules {
+        out.push(extension(alloc, signature, rule)?)?;
+    }
+    Ok(out)
+}
+
 #[tactic(auto, unfolding(crate::specs::Extension::tried_by))]
 fn tried_by(alloc: Global, signature: &Signature, rule: &Rule) -> Result<Items<Rule>, NoMemory>
     ensures { IfOk result (λ rules. rules ≡ spec.tried_by signature.now rule.now) }
@@ -190,8 +205,8 @@ pub fn unlabelled(alloc: Global, program: &Program) -> Result<Items<Rule>, NoMem
     ensures { IfOk result (λ rules. rules ≡ spec.unlabelled program.now) }
 {
     let mut out = Items::new(alloc);
-    for rule in program.rules.as_slice() {
-        let rules = tried_by(alloc, &program.signature, rule)?;
+    for rule in program.rules() {
+        let rules = tried_by(alloc, program.signature(), rule)?;
         out.append(rules)?;
     }
     Ok(out)

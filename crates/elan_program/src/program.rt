@@ -1,9 +1,17 @@
 //! Rules, named strategies and programs.
 
+ghost use Rattle.std.specs.Prelude.{◌≡◌, ◌<◌, IfOk, IfSome, IfNone, None, Some, length, map, slice_get};
+ghost use Rattle.std.specs.Option.{option_and_then};
+ghost use Rattle.elan_program.specs.Extension as spec;
+ghost use Rattle.elan_program.specs.Validity.{IsValid};
+
+use crate::extending::extensions;
 use crate::{Signature, Strategy};
 use elan_terms::{Pattern, SortId};
-use elan_text::Name;
+use elan_text::{Name, NoMemory};
 use sqlite_items::Items;
+use std::alloc::Global;
+use std::marker::Model;
 
 /// A condition of a rule.
 #[derive(Debug, Drop)]
@@ -36,10 +44,100 @@ pub struct Named {
     pub body: Strategy,
 }
 
-/// A signature with its rules and named strategies, each known by its place in its list.
+/// What a program is made of: a signature with rules and named strategies, each known by its place in its list.
 #[derive(Debug, Drop)]
-pub struct Program {
+pub struct Parts {
     pub signature: Signature,
     pub rules: Items<Rule>,
     pub named: Items<Named>,
+}
+
+/// A valid program. Contracts see its parts.
+///
+/// docs/LANGUAGE.md says what is valid. The extension rule of each rule that has one is made once and kept.
+#[derive(Debug, Drop)]
+pub struct Program {
+    parts: Parts,
+    extensions: Items<Option<Rule>>,
+}
+
+impl Model for Program {
+    ghost use Rattle.std.specs.Prelude.{◌≡◌, map};
+    ghost use Rattle.std.specs.Coded.{codes};
+    ghost use Rattle.elan_terms.specs.contracts.tree.Pattern as pattern;
+    ghost use Rattle.elan_program.specs.contracts.strategy.Strategy as strategy;
+    ghost use Rattle.elan_program.specs.declared.program.Parts.{Parts};
+
+    ghost Value = { Parts };
+
+    ghost coded = { Prim.hlevel (codes, pattern.the_row.coded, strategy.the_row.coded) };
+
+    ghost view = { λ p. p.parts };
+
+    ghost use Rattle.elan_program.specs.Extension.{extension};
+    ghost use Rattle.elan_program.specs.Validity.{IsValid};
+
+    ghost invariant = { λ p. IsValid p.parts × (p.extensions ≡ map (extension p.parts.signature) p.parts.rules) };
+}
+
+impl Program {
+    /// The program of valid parts. `Parts::is_valid` tells whether they are. The numbers of rules and of named strategies
+    /// are their places in these lists.
+    pub fn new(
+        alloc: Global,
+        signature: Signature,
+        rules: Items<Rule>,
+        named: Items<Named>,
+    ) -> Result<Program, NoMemory>
+        requires { IsValid record { signature = signature; rules = rules; named = named } }
+        ensures { IfOk result (λ p. p ≡ record { signature = signature; rules = rules; named = named }) }
+    {
+        let extensions = extensions(alloc, &signature, rules.as_slice())?;
+        Ok(Program {
+            parts: Parts {
+                signature,
+                rules,
+                named,
+            },
+            extensions,
+        })
+    }
+
+    /// The signature.
+    pub fn signature(&self) -> &Signature
+        ensures { result.now ≡ self.now.signature }
+    {
+        &self.parts.signature
+    }
+
+    /// The rules that the program was made with, in order.
+    pub fn rules(&self) -> &[Rule]
+        ensures { result.now ≡ self.now.rules }
+    {
+        self.parts.rules.as_slice()
+    }
+
+    /// The named strategies that the program was made with, in order.
+    pub fn named(&self) -> &[Named]
+        ensures { result.now ≡ self.now.named }
+    {
+        self.parts.named.as_slice()
+    }
+
+    /// What the program is made of, which is valid.
+    pub fn parts(&self) -> &Parts
+        ensures value { result.now ≡ self.now }
+        ensures valid { IsValid self.now }
+    {
+        &self.parts
+    }
+
+    /// The extension rule of the rule of this number: `None` exactly where that rule has none.
+    pub fn extension(&self, rule: u32) -> Option<&Rule>
+        requires { rule < length self.now.rules }
+        ensures found { IfSome result (λ r. option_and_then (spec.extension self.now.signature) (slice_get self.now.rules rule) ≡ Some r.now) }
+        ensures absent { IfNone result (option_and_then (spec.extension self.now.signature) (slice_get self.now.rules rule) ≡ None) }
+    {
+        self.extensions.as_slice()[rule as usize].as_ref()
+    }
 }

@@ -1,8 +1,8 @@
 //! What no clause says: calls with ample memory.
 
 use crate::{
-    Assoc, Builtin, Clause, Operator, Program, Rule, Signature, Strategy, StrategyNode,
-    copy_clause, copy_name, copy_rule, copy_strategy, extension, unlabelled,
+    Assoc, Builtin, Clause, Operator, Parts, Piece, Program, Rule, Signature, Strategy,
+    StrategyNode, copy_clause, copy_name, copy_rule, copy_strategy, extension, unlabelled,
 };
 use elan_terms::{OpId, Pattern, PatternNode, SortId};
 use elan_text::{Name, NoMemory};
@@ -12,9 +12,14 @@ use std::test::Fail;
 
 const SORT: SortId = SortId(0);
 
+// @ U @ or @ + @
 fn operator(alloc: Global, ac: bool, builtin: Option<Builtin>) -> Result<Operator, NoMemory> {
+    let mut pieces = Items::new(alloc);
+    pieces.push(Piece::Hole)?;
+    pieces.push(Piece::Word(Name::new(alloc, if ac { b"U" } else { b"+" })?))?;
+    pieces.push(Piece::Hole)?;
     Ok(Operator {
-        pieces: Items::new(alloc),
+        pieces,
         args: Items::from_slice(alloc, &[SORT, SORT])?,
         sort: SORT,
         pri: 0,
@@ -29,8 +34,10 @@ fn signature(alloc: Global) -> Result<Signature, NoMemory> {
     let mut operators = Items::new(alloc);
     operators.push(operator(alloc, true, None)?)?;
     operators.push(operator(alloc, false, Some(Builtin::Add))?)?;
+    let mut sorts = Items::new(alloc);
+    sorts.push(Name::new(alloc, b"int")?)?;
     Ok(Signature {
-        sorts: Items::new(alloc),
+        sorts,
         operators,
         int: Some(SORT),
         truth: None,
@@ -106,22 +113,176 @@ fn an_extension_leaves_a_number_for_its_variable(rt: HostRuntime) -> Result<(), 
     Ok(())
 }
 
-#[test]
-fn an_extension_stands_directly_after_its_rule(rt: HostRuntime) -> Result<(), Fail> {
-    let alloc = rt.alloc();
+// The rules of the two operators.
+fn parts(alloc: Global) -> Result<Parts, NoMemory> {
     let mut rules = Items::new(alloc);
     rules.push(rule(alloc, 0)?)?;
     rules.push(rule(alloc, 1)?)?;
-    let program = Program {
+    Ok(Parts {
         signature: signature(alloc)?,
         rules,
         named: Items::new(alloc),
+    })
+}
+
+fn program(alloc: Global, parts: Parts) -> Result<Option<Program>, NoMemory> {
+    if parts.is_valid(alloc)? {
+        let program = Program::new(alloc, parts.signature, parts.rules, parts.named)?;
+        Ok(Some(program))
+    } else {
+        Ok(None)
+    }
+}
+
+#[test]
+fn an_extension_stands_directly_after_its_rule(rt: HostRuntime) -> Result<(), Fail> {
+    let alloc = rt.alloc();
+    let found = program(alloc, parts(alloc)?)?;
+    assert!(rt; found.is_some());
+    let Some(program) = found else {
+        return Ok(());
     };
     let mut numbers = Vec::new(alloc);
     for rule in unlabelled(alloc, &program)?.as_slice() {
         numbers_onto(&mut numbers, &rule.left)?;
     }
     assert_eq!(rt; numbers.as_slice(), [0, 1, 0, 1, 2, 0, 1].as_slice());
+    assert_eq!(rt; program.rules().len(), 2);
+    assert!(rt; program.named().is_empty());
+    assert_eq!(rt; program.signature().operators.len(), 2);
+    assert_eq!(rt; program.parts().rules.len(), 2);
+    Ok(())
+}
+
+#[test]
+fn a_program_keeps_the_extension_of_a_rule(rt: HostRuntime) -> Result<(), Fail> {
+    let alloc = rt.alloc();
+    let found = program(alloc, parts(alloc)?)?;
+    assert!(rt; found.is_some());
+    let Some(program) = found else {
+        return Ok(());
+    };
+    let with = program.rules().len() == 2 && program.extension(0).is_some();
+    assert!(rt; with);
+    let without = program.rules().len() == 2 && program.extension(1).is_none();
+    assert!(rt; without);
+    Ok(())
+}
+
+// What is wrong with the parts of a program.
+#[derive(Clone, Copy)]
+enum Fault {
+    SortThatIsNotThere,
+    LeftSideOfAnotherSort,
+    VariableThatIsNotBound,
+    VariablesThatSkipANumber,
+    LabelOfARuleThatIsNotThere,
+    LabelThatDoesNotAscend,
+    IfWithoutTruth,
+    InjectionIntoItself,
+    WordThatIsReserved,
+    HoleTooMany,
+}
+
+// The pieces of `@`, of `@ end @` or of `@ U @ @`.
+fn pieces(alloc: Global, fault: Fault) -> Result<Items<Piece>, NoMemory> {
+    let mut pieces = Items::new(alloc);
+    pieces.push(Piece::Hole)?;
+    match fault {
+        Fault::InjectionIntoItself => {}
+        Fault::WordThatIsReserved => {
+            pieces.push(Piece::Word(Name::new(alloc, b"end")?))?;
+            pieces.push(Piece::Hole)?;
+        }
+        _ => {
+            pieces.push(Piece::Word(Name::new(alloc, b"U")?))?;
+            pieces.push(Piece::Hole)?;
+            pieces.push(Piece::Hole)?;
+        }
+    }
+    Ok(pieces)
+}
+
+fn faulty_operator(alloc: Global, fault: Fault) -> Result<Operator, NoMemory> {
+    let args = match fault {
+        Fault::InjectionIntoItself => Items::from_slice(alloc, &[SORT])?,
+        _ => Items::from_slice(alloc, &[SORT, SORT])?,
+    };
+    Ok(Operator {
+        pieces: pieces(alloc, fault)?,
+        args,
+        sort: SORT,
+        pri: 0,
+        assoc: Assoc::No,
+        ac: false,
+        builtin: None,
+    })
+}
+
+// A rule with one fault.
+fn faulty_rule(alloc: Global, fault: Fault) -> Result<Rule, NoMemory> {
+    let mut made = rule(alloc, 0)?;
+    match fault {
+        Fault::SortThatIsNotThere => made.sort = SortId(1),
+        Fault::LeftSideOfAnotherSort => {
+            made.left = Pattern {
+                node: PatternNode::Var(0, SortId(1)),
+            }
+        }
+        Fault::VariableThatIsNotBound => made.right = variable(3),
+        Fault::VariablesThatSkipANumber => made.left = over(alloc, 0, 0, 2)?,
+        Fault::LabelOfARuleThatIsNotThere => made.clauses = by_label(alloc, &[3])?,
+        Fault::LabelThatDoesNotAscend => made.clauses = by_label(alloc, &[1, 0])?,
+        _ => {
+            made.clauses = Items::new(alloc);
+            made.clauses.push(Clause::If(variable(0)))?;
+        }
+    }
+    Ok(made)
+}
+
+// z := (label) x
+fn by_label(alloc: Global, numbers: &[u32]) -> Result<Items<Clause>, NoMemory> {
+    let mut clauses = Items::new(alloc);
+    clauses.push(Clause::Where {
+        left: variable(2),
+        by: Strategy {
+            node: StrategyNode::Label(Items::from_slice(alloc, numbers)?),
+        },
+        of: variable(0),
+    })?;
+    Ok(clauses)
+}
+
+#[test]
+fn parts_with_a_fault_are_not_valid(rt: HostRuntime) -> Result<(), Fail> {
+    let alloc = rt.alloc();
+    assert!(rt; parts(alloc)?.is_valid(alloc)?);
+    for fault in [
+        Fault::SortThatIsNotThere,
+        Fault::LeftSideOfAnotherSort,
+        Fault::VariableThatIsNotBound,
+        Fault::VariablesThatSkipANumber,
+        Fault::LabelOfARuleThatIsNotThere,
+        Fault::LabelThatDoesNotAscend,
+        Fault::IfWithoutTruth,
+    ] {
+        let mut faulty = parts(alloc)?;
+        faulty.rules.push(faulty_rule(alloc, fault)?)?;
+        assert!(rt; !faulty.is_valid(alloc)?);
+    }
+    for fault in [
+        Fault::InjectionIntoItself,
+        Fault::WordThatIsReserved,
+        Fault::HoleTooMany,
+    ] {
+        let mut faulty = parts(alloc)?;
+        faulty
+            .signature
+            .operators
+            .push(faulty_operator(alloc, fault)?)?;
+        assert!(rt; !faulty.is_valid(alloc)?);
+    }
     Ok(())
 }
 

@@ -1,0 +1,8 @@
+use Rattle.elan_program.specs.Strategies.{strategy_weight, strategy_weights}
+use Rattle.elan_program.proofs.valid.+is_valid_strategy.Given as goal
+
+abbrev pub decreases-are_valid_strategies : goal.decreases-are_valid_strategies
+decreases-are_valid_strategies l = strategy_weights l.strategies.now
+
+abbrev pub decreases-is_valid_strategy : goal.decreases-is_valid_strategy
+decreases-is_valid_strategy l = strategy_weight l.strategy.now

@@ -37,8 +37,8 @@ pub struct Prepared {
 /// - The module has sections of sorts, operators and rules alone, and declares no variables.
 /// - Each sort is one word, and each one that is named is declared. The query sort is the result
 ///   sort.
-/// - Each operator has as many places for arguments as sorts of arguments, and no attributes. Their
-///   names, the first words of their spellings, differ.
+/// - Each operator is spelled by a name, which may have places for arguments in brackets behind it. It
+///   has as many places as sorts of arguments, and no attributes. Their names differ.
 /// - Each rule has a label and no conditions.
 /// - The start strategy is empty, which is `id`, or it is `id`, `fail`, a label or one `dk` of
 ///   labels, each of them the label of a rule for the query sort.

@@ -1,0 +1,12 @@
+pub mod Induction
+pub mod Lists
+pub mod NodeLemmas
+pub mod OrderLaws
+pub mod Sorting
+pub mod CanonicalLaws
+pub mod PartLaws
+pub mod MatchLaws
+pub mod Multisets
+pub mod EqualityLaws
+pub mod TestLemmas
+mod Examples

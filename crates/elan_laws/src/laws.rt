@@ -1,0 +1,69 @@
+//! What holds of every term. Each law is the contract of a call that does nothing.
+
+ghost use Rattle.std.specs.Prelude.{◌≡◌, ◌↔◌, ℤ, List, length};
+ghost use Rattle.std.specs.List.{Contains};
+ghost use Rattle.std.specs.Ordering.{nat_cmp, int_cmp, ordering_then, ordering_reverse};
+ghost use Rattle.std.specs.declared.cmp.Ordering.TheVariants.{Less, Equal};
+ghost use Rattle.std.specs.Cmp.Lexicographic.{slice_cmp};
+ghost use Rattle.elan_terms.specs.declared.tree.OpId.{OpId as OpValue};
+ghost use Rattle.elan_terms.specs.declared.tree.Term.{Term as TermValue};
+ghost use Rattle.elan_terms.specs.declared.tree.Pattern.{Pattern as PatternValue};
+ghost use Rattle.elan_terms.specs.declared.tree.Shapes.{Shapes as ShapesValue};
+ghost use Rattle.elan_terms.specs.Trees.{int_term, app_term};
+ghost use Rattle.elan_terms.specs.Term.{order, sort_of, canon};
+ghost use Rattle.elan_terms.specs.Match.{parts, matches};
+ghost use Rattle.elan_laws.specs.Canonical.{IsCanonical};
+ghost use Rattle.elan_laws.specs.Valid.{IsValid};
+ghost use Rattle.elan_laws.specs.Ascending.{AscendsStrictly};
+ghost use Rattle.elan_laws.specs.Parts.{IsPart};
+ghost use Rattle.elan_laws.specs.Matching.{IsMatch, AscendStrictly};
+ghost use Rattle.elan_laws.specs.Equality.{EqualModulo};
+
+/// The term order is total: of two terms that are not equal one stands before the other, and not
+/// the other before it, and what stands before a term stands before all that come after that term.
+pub fn order_is_total()
+    ensures equal { (t u : TermValue) → (order t u ≡ Equal) ↔ (t ≡ u) }
+    ensures reversed { (t u : TermValue) → order t u ≡ ordering_reverse (order u t) }
+    ensures transitive { (t u v : TermValue) → order t u ≡ Less → order u v ≡ Less → order t v ≡ Less }
+{}
+
+/// Integers stand before applications and are ordered by value. Applications are ordered by operator
+/// number, then by number of arguments, then by their arguments lexicographically.
+pub fn order_by_heads()
+    ensures integers { (x y : ℤ) → order (int_term x) (int_term y) ≡ int_cmp x y }
+    ensures kinds { (x : ℤ) (f : OpValue) (ts : List TermValue) → order (int_term x) (app_term f ts) ≡ Less }
+    ensures applications { (f g : OpValue) (ts us : List TermValue) → order (app_term f ts) (app_term g us)
+        ≡ ordering_then (nat_cmp f.0 g.0) (ordering_then (nat_cmp (length ts) (length us)) (slice_cmp order ts us)) }
+{}
+
+/// The canonical form is canonical, and it is the term itself where that is canonical already. It has
+/// the term's sort, and is valid where the term is.
+pub fn canonical_form()
+    ensures canonical { (shapes : ShapesValue) (t : TermValue) → IsCanonical shapes (canon shapes t) }
+    ensures itself { (shapes : ShapesValue) (t : TermValue) → IsCanonical shapes t → canon shapes t ≡ t }
+    ensures idempotent { (shapes : ShapesValue) (t : TermValue) → canon shapes (canon shapes t) ≡ canon shapes t }
+    ensures sort { (shapes : ShapesValue) (t : TermValue) → sort_of shapes (canon shapes t) ≡ sort_of shapes t }
+    ensures valid { (shapes : ShapesValue) (t : TermValue) → IsValid shapes t → IsValid shapes (canon shapes t) }
+{}
+
+/// Two valid terms are equal modulo associativity and commutativity exactly where their canonical
+/// forms are equal. That terms that are equal so have one canonical form is true of all terms.
+pub fn equality_modulo_ac()
+    ensures exactly { (shapes : ShapesValue) (t u : TermValue) → IsValid shapes t → IsValid shapes u → EqualModulo shapes t u ↔ (canon shapes t ≡ canon shapes u) }
+    ensures one_form { (shapes : ShapesValue) (t u : TermValue) → EqualModulo shapes t u → canon shapes t ≡ canon shapes u }
+    ensures form { (shapes : ShapesValue) (t : TermValue) → IsValid shapes t → EqualModulo shapes t (canon shapes t) }
+{}
+
+/// The list of parts ascends, so that each part stands in it once, and it holds the parts and nothing else.
+pub fn parts_ascend()
+    ensures order { (shapes : ShapesValue) (t : TermValue) → AscendsStrictly (parts shapes t) }
+    ensures parts { (shapes : ShapesValue) (t p : TermValue) → IsValid shapes t → Contains (parts shapes t) p ↔ IsPart shapes p t }
+{}
+
+/// The list of matches ascends lexicographically, so that each match stands in it once, and in a
+/// canonical term it holds the matches and nothing else.
+pub fn matches_once()
+    ensures order { (shapes : ShapesValue) (p : PatternValue) (t : TermValue) → AscendStrictly (matches shapes p t) }
+    ensures matches { (shapes : ShapesValue) (p : PatternValue) (t : TermValue) (values : List TermValue) →
+        IsValid shapes t → IsCanonical shapes t → Contains (matches shapes p t) values ↔ IsMatch shapes p t values }
+{}

@@ -10,3 +10,4 @@ pub mod Multisets
 pub mod EqualityLaws
 pub mod TestLemmas
 mod Examples
+pub mod InjectionLaws

@@ -6,7 +6,9 @@ use Rattle.elan_terms.specs.declared.tree.Shapes.{Shapes}
 use Rattle.elan_terms.specs.Trees.{app_term}
 use Rattle.elan_terms.specs.Term.{is_ac}
 
--- The least congruence with the two equations f(x, y) = f(y, x) and f(f(x, y), z) = f(x, f(y, z)) for each associative and commutative operator f. There more than two arguments stand for nested applications to two, so that f(x, y, z, ..) = f(x, f(y, z, ..)).
+-- The least congruence with the two equations f(x, y) = f(y, x) and f(f(x, y), z) = f(x, f(y, z)) for each associative
+-- and commutative operator f. There more than two arguments stand for nested applications to two, so that f(x, y, z,
+-- ..) = f(x, f(y, z, ..)).
 pub data EqualModulo (shapes : Shapes) : Term → Term → Type 0 where
   reflexive : {t u : Term} → t ≡ u → EqualModulo shapes t u
   symmetric : {t u : Term} → EqualModulo shapes t u → EqualModulo shapes u t

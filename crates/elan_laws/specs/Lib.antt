@@ -5,3 +5,4 @@ pub mod Canonical
 pub mod Parts
 pub mod Matching
 pub mod Equality
+pub mod Injections

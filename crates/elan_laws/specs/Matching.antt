@@ -21,7 +21,8 @@ filled value = fold_pattern (λ x _. value x) int_term app_term
 abbrev pub MayHave : Shapes → Term → ℕ × SortId → Term → Type 0
 MayHave shapes t v u = IsPart shapes u t × HasSort shapes u v.1
 
--- each variable of the pattern, in order of first occurrence, has a part of the term as its value, and the canonical form of the pattern filled with these is the term
+-- each variable of the pattern, in order of first occurrence, has a part of the term as its value, and the canonical
+-- form of the pattern filled with these is the term
 pub record IsMatch (shapes : Shapes) (p : Pattern) (t : Term) (values : List Term) : Type 0 where
   pub given : AllZip (MayHave shapes t) (variables p) values
   pub makes : canon shapes (filled (bound (variables p) values) p) ≡ t

@@ -13,7 +13,8 @@ pub data SomeOf {X : Type 0} : List X → List X → Type 0 where
   taken : {x : X} {us ts : List X} → SomeOf us ts → SomeOf (x ∷ us) (x ∷ ts)
   left : {x : X} {us ts : List X} → SomeOf us ts → SomeOf us (x ∷ ts)
 
--- p is the term or one of its subterms, or an associative and commutative operator over at least two of the arguments that it has somewhere in the term
+-- p is the term or one of its subterms, or an associative and commutative operator over at least two of the arguments
+-- that it has somewhere in the term
 pub data IsPart (shapes : Shapes) (p : Term) : Term → Type 0 where
   whole : {t : Term} → p ≡ t → IsPart shapes p t
   inside : (op : OpId) (ts : List Term) (t : Term) → Contains ts t → IsPart shapes p t → IsPart shapes p (app_term op ts)

@@ -17,7 +17,8 @@ HasSort shapes t s = sort_of shapes t ≡ Some s
 abbrev pub IsNumber : Shapes → ℤ → Type 0
 IsNumber shapes z = (unsigned_abs z < 2 ^ 63) × IsTrue (is_some shapes.int)
 
--- an associative and commutative operator has at least two arguments, all of its own sort; any other has one argument of each of its argument sorts, in order
+-- an associative and commutative operator has at least two arguments, all of its own sort; any other has one argument
+-- of each of its argument sorts, in order
 abbrev pub Takes : Shapes → Shape → List Term → Type 0
 Takes shapes shape ts = MatchBool shape.ac ((2 ≤ length ts) × All (λ t. HasSort shapes t shape.sort) ts) (AllZip (HasSort shapes) ts shape.args)
 

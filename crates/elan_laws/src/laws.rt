@@ -1,6 +1,6 @@
-//! What holds of every term. Each law is the contract of a call that does nothing.
+//! What holds of every term, and of the injections of a signature. Each law is the contract of a call that does nothing.
 
-ghost use Rattle.std.specs.Prelude.{◌≡◌, ◌↔◌, ℤ, List, length};
+ghost use Rattle.std.specs.Prelude.{◌≡◌, ◌↔◌, ℤ, List, length, true};
 ghost use Rattle.std.specs.List.{Contains};
 ghost use Rattle.std.specs.Ordering.{nat_cmp, int_cmp, ordering_then, ordering_reverse};
 ghost use Rattle.std.specs.declared.cmp.Ordering.TheVariants.{Less, Equal};
@@ -12,12 +12,15 @@ ghost use Rattle.elan_terms.specs.declared.tree.Shapes.{Shapes as ShapesValue};
 ghost use Rattle.elan_terms.specs.Trees.{int_term, app_term};
 ghost use Rattle.elan_terms.specs.Term.{order, sort_of, canon};
 ghost use Rattle.elan_terms.specs.Match.{parts, matches};
+ghost use Rattle.elan_program.specs.declared.signature.Signature.{Signature as SignatureValue};
+ghost use Rattle.elan_program.specs.Soundness.{injections, has_no_cycle};
 ghost use Rattle.elan_laws.specs.Canonical.{IsCanonical};
 ghost use Rattle.elan_laws.specs.Valid.{IsValid};
 ghost use Rattle.elan_laws.specs.Ascending.{AscendsStrictly};
 ghost use Rattle.elan_laws.specs.Parts.{IsPart};
 ghost use Rattle.elan_laws.specs.Matching.{IsMatch, AscendStrictly};
 ghost use Rattle.elan_laws.specs.Equality.{EqualModulo};
+ghost use Rattle.elan_laws.specs.Injections.{BeginAmong, HasNoCycle};
 
 /// The term order is total: of two terms that are not equal one stands before the other, and not
 /// the other before it, and what stands before a term stands before all that come after that term.
@@ -66,4 +69,10 @@ pub fn matches_once()
     ensures order { (shapes : ShapesValue) (p : PatternValue) (t : TermValue) → AscendStrictly (matches shapes p t) }
     ensures matches { (shapes : ShapesValue) (p : PatternValue) (t : TermValue) (values : List TermValue) →
         IsValid shapes t → IsCanonical shapes t → Contains (matches shapes p t) values ↔ IsMatch shapes p t values }
+{}
+
+/// In a signature whose injections begin at its sorts, none of them leads a sort back to itself exactly where no chain of
+/// them is longer than there are sorts, which is how a signature is tested.
+pub fn injections_end()
+    ensures { (g : SignatureValue) → BeginAmong (length g.sorts) (injections g) → (has_no_cycle g ≡ true) ↔ HasNoCycle (injections g) }
 {}

@@ -5,6 +5,7 @@ pub mod OrderLaws
 pub mod Sorting
 pub mod CanonicalLaws
 pub mod PartLaws
+pub mod TimesLaws
 pub mod MatchLaws
 pub mod Multisets
 pub mod EqualityLaws

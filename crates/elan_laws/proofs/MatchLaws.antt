@@ -17,10 +17,11 @@ use Rattle.elan_terms.proofs.OrderLemmas.{order-itself, same-equal, equal-same}
 use Rattle.elan_laws.specs.Valid.{HasSort, IsValid}
 use Rattle.elan_laws.specs.Ascending.{Before, NotAfter}
 use Rattle.elan_laws.specs.Canonical.{is_headed, IsSettled, IsCanonical}
-use Rattle.elan_laws.specs.Parts.{SomeOf, none, taken, left, IsPart, whole, inside, some}
-use Rattle.elan_laws.specs.Matching.{filled, MayHave, IsMatch, AscendStrictly}
+use Rattle.elan_laws.specs.Parts.{SomeOf, IsPart, whole, inside, some}
+use Rattle.elan_laws.specs.Matching.{filled, MayHave, IsMatch, AscendLexicographically}
 use Rattle.elan_laws.proofs.Lists.{AllOf, Pairs, In, in_of_contains, contains_of_in, all_of, all_from, pairs_of, pairs_from, in_all, all_append, in_filter, in_kept, in_map, in_mapped, in_flat, in_flattened}
 use Rattle.elan_laws.proofs.Sorting.{not_true}
+use Rattle.elan_laws.proofs.TimesLaws.{some_all, some_pairs}
 use Rattle.elan_laws.proofs.CanonicalLaws.{canon-of_int, canon-of_app, canonical-canon, canonical_app, app_canonical}
 use Rattle.elan_laws.proofs.PartLaws.{parts-ascend, parts-exact}
 
@@ -89,7 +90,7 @@ choices-ascend shapes all [] h = (tt, tt)
 choices-ascend shapes all (v ∷ vs) h =
     each-prefixed (choices shapes all vs) (filter (has_sort shapes v.1) all) (pairs_filter Before (has_sort shapes v.1) all h) (choices-ascend shapes all vs h)
 
-pub matches-ascend : (shapes : Shapes) (p : Pattern) (t : Term) → AscendStrictly (matches shapes p t)
+pub matches-ascend : (shapes : Shapes) (p : Pattern) (t : Term) → AscendLexicographically (matches shapes p t)
 unfolding matches assignments
 matches-ascend shapes p t =
     pairs_from Lex _ (pairs_filter Lex (fits shapes (variables p) p t) _ (choices-ascend shapes (parts shapes t) (variables p) (pairs_of Before _ (parts-ascend shapes t))))
@@ -153,16 +154,6 @@ module _ {A B : Type 0} (P : B → Type 0) where
   zip_second (x ∷ xs) (y ∷ ys) h = (h.0, zip_second xs ys h.1)
 
 -- ---- parts of a canonical term are canonical
-
-some_all : {us ts : List Term} (P : Term → Type 0) → SomeOf us ts → AllOf P ts → AllOf P us
-some_all P none h = h
-some_all P (taken s) h = (h.0, some_all P s h.1)
-some_all P (left s) h = some_all P s h.1
-
-some_pairs : {us ts : List Term} (R : Term → Term → Type 0) → SomeOf us ts → Pairs R ts → Pairs R us
-some_pairs R none h = h
-some_pairs R (taken {x = x} s) h = (some_all (R x) s h.0, some_pairs R s h.1)
-some_pairs R (left s) h = some_pairs R s h.1
 
 some_settled : (shapes : Shapes) (op : OpId) (ts us : List Term) → SomeOf us ts → IsSettled shapes op ts → IsSettled shapes op us
 some_settled shapes op ts us s h ac = (

@@ -28,5 +28,5 @@ pub record IsMatch (shapes : Shapes) (p : Pattern) (t : Term) (values : List Ter
   pub makes : canon shapes (filled (bound (variables p) values) p) ≡ t
 
 -- each list stands before all that come later, by the first item at which they differ
-abbrev pub AscendStrictly : List (List Term) → Type 0
-AscendStrictly = AllPairs (λ a b. slice_cmp order a b ≡ Less)
+abbrev pub AscendLexicographically : List (List Term) → Type 0
+AscendLexicographically = AllPairs (λ a b. slice_cmp order a b ≡ Less)

@@ -1,6 +1,6 @@
 //! What holds of every term, and of the injections of a signature. Each law is the contract of a call that does nothing.
 
-ghost use Rattle.std.specs.Prelude.{◌≡◌, ◌↔◌, ℤ, List, length, true};
+ghost use Rattle.std.specs.Prelude.{◌≡◌, ◌≤◌, ◌↔◌, ℤ, List, length, true};
 ghost use Rattle.std.specs.List.{Contains};
 ghost use Rattle.std.specs.Ordering.{nat_cmp, int_cmp, ordering_then, ordering_reverse};
 ghost use Rattle.std.specs.declared.cmp.Ordering.TheVariants.{Less, Equal};
@@ -16,9 +16,9 @@ ghost use Rattle.elan_program.specs.declared.signature.Signature.{Signature as S
 ghost use Rattle.elan_program.specs.Soundness.{injections, has_no_cycle};
 ghost use Rattle.elan_laws.specs.Canonical.{IsCanonical};
 ghost use Rattle.elan_laws.specs.Valid.{IsValid};
-ghost use Rattle.elan_laws.specs.Ascending.{AscendsStrictly};
-ghost use Rattle.elan_laws.specs.Parts.{IsPart};
-ghost use Rattle.elan_laws.specs.Matching.{IsMatch, AscendStrictly};
+ghost use Rattle.elan_laws.specs.Ascending.{Ascends, AscendsStrictly};
+ghost use Rattle.elan_laws.specs.Parts.{IsPart, SomeOf, times};
+ghost use Rattle.elan_laws.specs.Matching.{IsMatch, AscendLexicographically};
 ghost use Rattle.elan_laws.specs.Equality.{EqualModulo};
 ghost use Rattle.elan_laws.specs.Injections.{BeginAmong, HasNoCycle};
 
@@ -52,7 +52,8 @@ pub fn canonical_form()
 /// Two valid terms are equal modulo associativity and commutativity exactly where their canonical
 /// forms are equal. That terms that are equal so have one canonical form is true of all terms.
 pub fn equality_modulo_ac()
-    ensures exactly { (shapes : ShapesValue) (t u : TermValue) → IsValid shapes t → IsValid shapes u → EqualModulo shapes t u ↔ (canon shapes t ≡ canon shapes u) }
+    ensures exactly { (shapes : ShapesValue) (t u : TermValue) → IsValid shapes t → IsValid shapes u →
+        EqualModulo shapes t u ↔ (canon shapes t ≡ canon shapes u) }
     ensures one_form { (shapes : ShapesValue) (t u : TermValue) → EqualModulo shapes t u → canon shapes t ≡ canon shapes u }
     ensures form { (shapes : ShapesValue) (t : TermValue) → IsValid shapes t → EqualModulo shapes t (canon shapes t) }
 {}
@@ -60,13 +61,18 @@ pub fn equality_modulo_ac()
 /// The list of parts ascends, so that each part stands in it once, and it holds the parts and nothing else.
 pub fn parts_ascend()
     ensures order { (shapes : ShapesValue) (t : TermValue) → AscendsStrictly (parts shapes t) }
-    ensures parts { (shapes : ShapesValue) (t p : TermValue) → IsValid shapes t → Contains (parts shapes t) p ↔ IsPart shapes p t }
+    ensures parts { (shapes : ShapesValue) (t p : TermValue) → IsValid shapes t →
+        Contains (parts shapes t) p ↔ IsPart shapes p t }
+
+    // Of arguments that ascend, some in their order are a multiset that has each at most as often.
+    ensures multisets { (us ts : List TermValue) → Ascends ts →
+        SomeOf us ts ↔ (Ascends us × ((t : TermValue) → times t us ≤ times t ts)) }
 {}
 
 /// The list of matches ascends lexicographically, so that each match stands in it once, and in a
 /// canonical term it holds the matches and nothing else.
 pub fn matches_once()
-    ensures order { (shapes : ShapesValue) (p : PatternValue) (t : TermValue) → AscendStrictly (matches shapes p t) }
+    ensures order { (shapes : ShapesValue) (p : PatternValue) (t : TermValue) → AscendLexicographically (matches shapes p t) }
     ensures matches { (shapes : ShapesValue) (p : PatternValue) (t : TermValue) (values : List TermValue) →
         IsValid shapes t → IsCanonical shapes t → Contains (matches shapes p t) values ↔ IsMatch shapes p t values }
 {}

@@ -12,7 +12,8 @@ use std::alloc::Global;
 /// associativity and commutativity.
 pub fn equal_modulo(alloc: Global, shapes: &Shapes, a: &Term, b: &Term) -> Result<bool, NoMemory>
     ensures forms { IfOk result (λ yes. IsTrue yes ↔ (canon shapes.now a.now ≡ canon shapes.now b.now)) }
-    ensures equal { IsValid shapes.now a.now → IsValid shapes.now b.now → IfOk result (λ yes. IsTrue yes ↔ EqualModulo shapes.now a.now b.now) }
+    ensures equal { IsValid shapes.now a.now → IsValid shapes.now b.now →
+        IfOk result (λ yes. IsTrue yes ↔ EqualModulo shapes.now a.now b.now) }
 {
     let first = canon(alloc, shapes, a)?;
     let second = canon(alloc, shapes, b)?;

@@ -1,0 +1,10 @@
+//! The values of the built-in operations, from what their arguments are.
+#![tactic(auto)]
+
+mod operand;
+mod reducing;
+#[cfg(test)]
+mod tests;
+
+pub use operand::{Operand, Reduced};
+pub use reducing::reduce;

@@ -1,291 +1,592 @@
--- Forms that count their tokens: a front is a mark where it has more tokens than were left, and some text begins so.
-use Rattle.std.proofs.Common.{◌≡◌, ℕ, zero, suc, ◌+◌, ◌-◌, ◌<◌, ◌≤◌, Bool, true, List, [], ◌∷◌, ◌++◌, length, ◌⊎◌, inl, inr, refl, sym, ap, subst, ◌∙◌, append_assoc, append-nil, arith, length-append, add-zero}
-use Rattle.elan_forms.specs.Whole.{Possible}
-use Rattle.elan_forms.specs.Form.{Form, ◌>>=◌, counted, either, loop, loop_words, nested}
+-- Forms that count some of their tokens: a front is a mark where it ends with such a token, has more of them than were
+-- left, and some text begins so.
+use Rattle.std.proofs.Common.{◌≡◌, ℕ, zero, suc, ◌+◌, ◌-◌, ◌<◌, ◌≤◌, Bool, true, false, cond, List, [], ◌∷◌, ◌++◌, length, ◌⊎◌, inl, inr, refl, sym, ap, subst, ◌∙◌, append_assoc, append-nil, arith, length-append, add-zero}
+use Rattle.std.specs.Prelude.{count_by, ◌↔◌}
+use Rattle.std.proofs.lemmas.List.Sums.{sum_by-append, sum_by-cons, count_by-le-length}
+use Rattle.elan_forms.specs.Whole.{Possible, Unmarked, EndsWith, IsFirstMark}
+use Rattle.elan_forms.specs.Form.{Form, ◌>>=◌, counted, pure, either, loop, loop_words, nested}
 use Rattle.elan_forms.proofs.Steps.{head_is, tail_is}
 use Rattle.elan_forms.proofs.Exact.{Same}
 use Rattle.elan_forms.proofs.Nested.{Grows, Lessens, unroll}
 
--- A form that takes how many tokens are left and answers how many are left then, on texts shorter than a bound.
-pub record Counts {T : Type 0} (b : ℕ) (R : ℕ → Form T ℕ) : Type 0 where
+-- ---- how many tokens count
+
+module _ {T : Type 0} (c : T → Bool) where
+  pub count_append : (u v : List T) → count_by c (u ++ v) ≡ count_by c u + count_by c v
+  count_append u v = sum_by-append (λ x. cond (c x) 1 0) u v
+
+  count_cons : (t : T) (ts : List T) → count_by c (t ∷ ts) ≡ cond (c t) 1 0 + count_by c ts
+  count_cons t ts = sum_by-cons (λ x. cond (c x) 1 0) t ts
+
+  pub count_one : (t : T) → c t ≡ true → count_by c (t ∷ []) ≡ 1
+  count_one t e = count_cons t [] ∙ ap (λ b. cond b 1 0 + 0) e
+
+  pub count_none : (t : T) → c t ≡ false → count_by c (t ∷ []) ≡ 0
+  count_none t e = count_cons t [] ∙ ap (λ b. cond b 1 0 + 0) e
+
+  count_sum : (ts u v : List T) → ts ≡ u ++ v → count_by c ts ≡ count_by c u + count_by c v
+  count_sum ts u v e = ap (count_by c) e ∙ count_append u v
+
+  -- ---- what ends with a token that counts
+
+  ends_tail : (x : T) (w : List T) → EndsWith c (x ∷ w) → 0 < length w → EndsWith c w
+  ends_tail x w ([], t, e, ct) lt =
+      let none : length w ≡ 0 = ap length (tail_is x t w [] e) in absurd (omega arith)
+  ends_tail x w (y ∷ front, t, e, ct) lt = (front, t, tail_is x y w (front ++ t ∷ []) e, ct)
+
+  ends_right : (u w : List T) → EndsWith c (u ++ w) → 0 < length w → EndsWith c w
+  ends_right [] w h lt = h
+  ends_right (x ∷ u) w h lt = ends_right u w (ends_tail x (u ++ w) h (omega (arith, length-append u w))) lt
+
+  ends_behind : (u v : List T) → EndsWith c v → EndsWith c (u ++ v)
+  ends_behind u v (front, t, e, ct) = (
+    u ++ front,
+    t,
+    ap (λ z. u ++ z) e ∙ sym (append_assoc u front (t ∷ [])),
+    ct,
+  )
+
+  ends_counts : (ts : List T) → EndsWith c ts → 0 < count_by c ts
+  ends_counts ts (front, t, e, ct) = omega (arith, count_sum ts front (t ∷ []) e, count_one t ct)
+
+  -- a front that ends with its last token that counts, and has all of them
+  abbrev Trimmed : List T → Type 0
+  Trimmed ts = (u : List T) × (v : List T) × (ts ≡ u ++ v) × EndsWith c u × (count_by c u ≡ count_by c ts)
+
+  trimmed_behind : (t : T) (ts : List T) → Trimmed ts → Trimmed (t ∷ ts)
+  trimmed_behind t ts (u, v, e, h, n) = (
+    t ∷ u,
+    v,
+    ap (λ z. t ∷ z) e,
+    ends_behind (t ∷ []) u h,
+    count_cons t u ∙ ap (λ m. cond (c t) 1 0 + m) n ∙ sym (count_cons t ts),
+  )
+
+  trimmed_here : (t : T) (ts : List T) (d : Bool) → c t ≡ d → count_by c ts ≡ 0 → 0 < count_by c (t ∷ ts) →
+      Trimmed (t ∷ ts)
+  trimmed_here t ts true ct none lt = (
+    t ∷ [],
+    ts,
+    refl,
+    ([], t, refl, ct),
+    count_one t ct ∙ sym (count_cons t ts ∙ ap (λ b. cond b 1 0 + count_by c ts) ct ∙ ap (λ m. 1 + m) none),
+  )
+  trimmed_here t ts false ct none lt =
+      let zero_here : count_by c (t ∷ ts) ≡ 0 = count_cons t ts ∙ ap (λ b. cond b 1 0 + count_by c ts) ct ∙ ap
+      (λ m. 0 + m) none in
+      absurd (omega arith)
+
+  trimmed : (ts : List T) → 0 < count_by c ts → Trimmed ts
+  trimmed [] lt = absurd (omega arith)
+  trimmed (t ∷ ts) lt = go (trimmed ts) (count_by c ts) refl
+    where
+      go : (0 < count_by c ts → Trimmed ts) → (m : ℕ) → count_by c ts ≡ m → Trimmed (t ∷ ts)
+      go further zero e = trimmed_here t ts (c t) refl e lt
+      go further (suc m) e = trimmed_behind t ts (further (omega arith))
+
+-- A form that takes how many tokens are left and answers how many are left then, on texts shorter than a bound. The
+-- test says which tokens count.
+pub record Counts {T : Type 0} (c : T → Bool) (b : ℕ) (R : ℕ → Form T ℕ) : Type 0 where
   pub has : (left n : ℕ) → (w : List T) × (v : ℕ) × (R left).words n w v
-  pub spent : (left n : ℕ) (ts : List T) (v : ℕ) → length ts < b → (R left).words n ts v → v ≡ left - length ts
-  pub past : (left n : ℕ) (ts : List T) → length ts < b → (R left).marks n ts → left < length ts
+  pub spent : (left n : ℕ) (ts : List T) (v : ℕ) → length ts < b → (R left).words n ts v → v ≡ left - count_by c ts
+  pub past : (left n : ℕ) (ts : List T) → length ts < b → (R left).marks n ts → left < count_by c ts
+  pub ends : (left n : ℕ) (ts : List T) → length ts < b → (R left).marks n ts → EndsWith c ts
   pub goes_on : (left n : ℕ) (ts : List T) → length ts < b → (R left).marks n ts → Possible ((R left).words n) ts
   pub marks : (left n : ℕ) (ts more : List T) (v : ℕ) → length (ts ++ more) < b → (R left).words n (ts ++ more) v →
-      left < length ts →
+      left < count_by c ts → EndsWith c ts →
       (R left).marks n ts
 
-pub counts_less : {T : Type 0} (b c : ℕ) (R : ℕ → Form T ℕ) → b ≤ c → Counts c R → Counts b R
-counts_less b c R le h = record {
-  has = h.has;
-  spent = λ left n ts v l w. h.spent left n ts v (omega arith) w;
-  past = λ left n ts l m. h.past left n ts (omega arith) m;
-  goes_on = λ left n ts l m. h.goes_on left n ts (omega arith) m;
-  marks = λ left n ts more v l w lt. h.marks left n ts more v (omega arith) w lt;
-}
+module _ {T : Type 0} (c : T → Bool) where
+  pub counts_less : (b d : ℕ) (R : ℕ → Form T ℕ) → b ≤ d → Counts c d R → Counts c b R
+  counts_less b d R le h = record {
+    has = h.has;
+    spent = λ left n ts v l w. h.spent left n ts v (omega arith) w;
+    past = λ left n ts l m. h.past left n ts (omega arith) m;
+    ends = λ left n ts l m. h.ends left n ts (omega arith) m;
+    goes_on = λ left n ts l m. h.goes_on left n ts (omega arith) m;
+    marks = λ left n ts more v l w lt e. h.marks left n ts more v (omega arith) w lt e;
+  }
 
--- ---- one token
+  -- ---- no token, and one token
 
-nil_of_length : {T : Type 0} (ts : List T) → length ts ≡ 0 → ts ≡ []
-nil_of_length [] e = refl
-nil_of_length (t ∷ ts) e = absurd (omega arith)
+  nil_of_length : (ts : List T) → length ts ≡ 0 → ts ≡ []
+  nil_of_length [] e = refl
+  nil_of_length (t ∷ ts) e = absurd (omega arith)
 
-pub counts_counted : {T : Type 0} (b : ℕ) (p : T → Bool) (w : T) → p w ≡ true → Counts b (counted p)
-counts_counted {T} b p w pw = record {
-  has = λ left n. (w ∷ [], left - 1, (w, refl, pw, refl));
-  spent = λ left n ts v l (t, e, pt, ev). let one : length ts ≡ 1 = ap length e in omega arith;
-  past = λ left n ts l (z, t, e, pt). let one : length ts ≡ 1 = ap length e in omega arith;
-  goes_on = λ left n ts l (z, t, e, pt). ([], left - 1, (t, append-nil ts ∙ e, pt, refl));
-  marks = marks;
-}
-  where
-    marks : (left n : ℕ) (ts more : List T) (v : ℕ) → length (ts ++ more) < b →
-        (counted p left).words n (ts ++ more) v → left < length ts →
-        (counted p left).marks n ts
-    marks left n ts more v l (t, e, pt, ev) lt =
-        let one : length (ts ++ more) ≡ 1 = ap length e in
-        let none : more ≡ [] = nil_of_length more (omega (arith, length-append ts more)) in
-        (omega (arith, length-append ts more), t, sym (append-nil ts) ∙ ap (λ z. ts ++ z) (sym none) ∙ e, pt)
+  pub counts_silent : (b : ℕ) → Counts c b (λ left. pure left)
+  counts_silent b = record {
+    has = λ left n. ([], left, (refl, refl));
+    spent = λ left n ts v l (e, ev). let none : length ts ≡ 0 = ap length e in omega (arith, count_by-le-length c ts);
+    past = λ left n ts l m. absurd m;
+    ends = λ left n ts l m. absurd m;
+    goes_on = λ left n ts l m. absurd m;
+    marks = λ left n ts more v l (e, ev) lt h. let none : length (ts ++ more) ≡ 0 = ap length e in
+        absurd (omega (arith, length-append ts more, count_by-le-length c ts));
+  }
 
--- ---- one after the other
+  pub counts_counted : (b : ℕ) (p : T → Bool) (w : T) → p w ≡ true → ((t : T) → p t ≡ true → c t ≡ true) →
+      Counts c b (counted p)
+  counts_counted b p w pw each = record {
+    has = λ left n. (w ∷ [], left - 1, (w, refl, pw, refl));
+    spent = λ left n ts v l (t, e, pt, ev). let one : count_by c ts ≡ 1 = counted_one ts t e pt in omega arith;
+    past = λ left n ts l (z, t, e, pt). let one : count_by c ts ≡ 1 = counted_one ts t e pt in omega arith;
+    ends = λ left n ts l (z, t, e, pt). ([], t, e, each t pt);
+    goes_on = λ left n ts l (z, t, e, pt). ([], left - 1, (t, append-nil ts ∙ e, pt, refl));
+    marks = marks;
+  }
+    where
+      counted_one : (ts : List T) (t : T) → ts ≡ t ∷ [] → p t ≡ true → count_by c ts ≡ 1
+      counted_one ts t e pt = ap (count_by c) e ∙ count_one c t (each t pt)
 
--- a front is inside the first part, or has it and a front of the second
-split_front : {T : Type 0} (ts more u v : List T) → ts ++ more ≡ u ++ v →
-    ((w : List T) × (u ≡ ts ++ w)) ⊎ ((w : List T) × (ts ≡ u ++ w) × (v ≡ w ++ more) × (0 < length w))
-split_front [] more u v e = inl (u, refl)
-split_front (t ∷ ts) more [] v e = inr (t ∷ ts, refl, sym e, omega arith)
-split_front {T} (t ∷ ts) more (x ∷ u) v e = go (split_front ts more u v (tail_is t x (ts ++ more) (u ++ v) e))
-  where
-    h : t ≡ x
-    h = head_is t x (ts ++ more) (u ++ v) e
+      marks : (left n : ℕ) (ts more : List T) (v : ℕ) → length (ts ++ more) < b →
+          (counted p left).words n (ts ++ more) v → left < count_by c ts → EndsWith c ts →
+          (counted p left).marks n ts
+      marks left n ts more v l (t, e, pt, ev) lt h =
+          let one : length (ts ++ more) ≡ 1 = ap length e in
+          let few : count_by c ts ≤ length ts = count_by-le-length c ts in
+          let none : more ≡ [] = nil_of_length more (omega (arith, length-append ts more)) in (
+            omega (arith, length-append ts more),
+            t,
+            sym (append-nil ts) ∙ ap (λ z. ts ++ z) (sym none) ∙ e,
+            pt,
+          )
 
-    go : ((w : List T) × (u ≡ ts ++ w)) ⊎ ((w : List T) × (ts ≡ u ++ w) × (v ≡ w ++ more) × (0 < length w)) →
-        ((w : List T) × (x ∷ u ≡ (t ∷ ts) ++ w)) ⊎ ((w : List T) × (t ∷ ts ≡ (x ∷ u) ++ w) × (v ≡ w ++ more) ×
-        (0 < length w))
-    go (inl (w, e1)) = inl (w, ap (λ z. x ∷ z) e1 ∙ ap (λ z. z ∷ (ts ++ w)) (sym h))
-    go (inr (w, e1, e2, lt)) = inr (w, ap (λ z. t ∷ z) e1 ∙ ap (λ z. z ∷ (u ++ w)) h, e2, lt)
+  -- ---- one after the other
 
-sum_length : {T : Type 0} (ts u v : List T) → ts ≡ u ++ v → length ts ≡ length u + length v
-sum_length ts u v e = ap length e ∙ length-append u v
+  -- a front is inside the first part, or has it and a front of the second
+  split_front : (ts more u v : List T) → ts ++ more ≡ u ++ v →
+      ((w : List T) × (u ≡ ts ++ w)) ⊎ ((w : List T) × (ts ≡ u ++ w) × (v ≡ w ++ more) × (0 < length w))
+  split_front [] more u v e = inl (u, refl)
+  split_front (t ∷ ts) more [] v e = inr (t ∷ ts, refl, sym e, omega arith)
+  split_front (t ∷ ts) more (x ∷ u) v e = go (split_front ts more u v (tail_is t x (ts ++ more) (u ++ v) e))
+    where
+      h : t ≡ x
+      h = head_is t x (ts ++ more) (u ++ v) e
 
--- The second form need only count on texts shorter than what the first one leaves.
-pub counts_bind : {T : Type 0} (b c : ℕ) (R S : ℕ → Form T ℕ) → Counts b R → Counts c S →
-    ((left n x : ℕ) (u v : List T) → (R left).words n u x → length u + length v < b → length v < c) → Counts b
-    (λ left. R left >>= S)
-counts_bind {T} b c R S hr hs short = record { has = has; spent = spent; past = past; goes_on = goes_on; marks = marks }
-  where
-    has : (left n : ℕ) → (w : List T) × (v : ℕ) × (R left >>= S).words n w v
-    has left n =
-        let r = hr.has left n in
-        let s = hs.has r.1 (n + length r.0) in
-        (r.0 ++ s.0, s.1, (r.0, s.0, r.1, r.2, s.2, refl))
+      go : ((w : List T) × (u ≡ ts ++ w)) ⊎ ((w : List T) × (ts ≡ u ++ w) × (v ≡ w ++ more) × (0 < length w)) →
+          ((w : List T) × (x ∷ u ≡ (t ∷ ts) ++ w)) ⊎ ((w : List T) × (t ∷ ts ≡ (x ∷ u) ++ w) × (v ≡ w ++ more) ×
+          (0 < length w))
+      go (inl (w, e1)) = inl (w, ap (λ z. x ∷ z) e1 ∙ ap (λ z. z ∷ (ts ++ w)) (sym h))
+      go (inr (w, e1, e2, lt)) = inr (w, ap (λ z. t ∷ z) e1 ∙ ap (λ z. z ∷ (u ++ w)) h, e2, lt)
 
-    spent : (left n : ℕ) (ts : List T) (y : ℕ) → length ts < b → (R left >>= S).words n ts y → y ≡ left - length ts
-    spent left n ts y l (u, v, x, fw, gw, e) =
+  sum_length : (ts u v : List T) → ts ≡ u ++ v → length ts ≡ length u + length v
+  sum_length ts u v e = ap length e ∙ length-append u v
+
+  -- The second form need only count on texts shorter than what the first one leaves.
+  pub counts_bind : (b d : ℕ) (R S : ℕ → Form T ℕ) → Counts c b R → Counts c d S →
+      ((left n x : ℕ) (u v : List T) → (R left).words n u x → length u + length v < b → length v < d) → Counts c b
+      (λ left. R left >>= S)
+  counts_bind b d R S hr hs short = record {
+    has = has;
+    spent = spent;
+    past = past;
+    ends = ends;
+    goes_on = goes_on;
+    marks = marks;
+  }
+    where
+      has : (left n : ℕ) → (w : List T) × (v : ℕ) × (R left >>= S).words n w v
+      has left n =
+          let r = hr.has left n in
+          let s = hs.has r.1 (n + length r.0) in
+          (r.0 ++ s.0, s.1, (r.0, s.0, r.1, r.2, s.2, refl))
+
+      spent : (left n : ℕ) (ts : List T) (y : ℕ) → length ts < b → (R left >>= S).words n ts y →
+          y ≡ left - count_by c ts
+      spent left n ts y l (u, v, x, fw, gw, e) =
+          let sum : length ts ≡ length u + length v = sum_length ts u v e in
+          let count : count_by c ts ≡ count_by c u + count_by c v = count_sum c ts u v e in
+          let first : x ≡ left - count_by c u = hr.spent left n u x (omega arith) fw in
+          let second : y ≡ x - count_by c v = hs.spent x (n + length u) v y (short left n x u v fw (omega arith)) gw in
+          omega arith
+
+      past : (left n : ℕ) (ts : List T) → length ts < b → (R left >>= S).marks n ts → left < count_by c ts
+      past left n ts l (inl m) = hr.past left n ts l m
+      past left n ts l (inr (u, v, x, fw, m, e)) =
+          let sum : length ts ≡ length u + length v = sum_length ts u v e in
+          let count : count_by c ts ≡ count_by c u + count_by c v = count_sum c ts u v e in
+          let first : x ≡ left - count_by c u = hr.spent left n u x (omega arith) fw in
+          let second : x < count_by c v = hs.past x (n + length u) v (short left n x u v fw (omega arith)) m in
+          omega arith
+
+      ends : (left n : ℕ) (ts : List T) → length ts < b → (R left >>= S).marks n ts → EndsWith c ts
+      ends left n ts l (inl m) = hr.ends left n ts l m
+      ends left n ts l (inr (u, v, x, fw, m, e)) =
+          let sum : length ts ≡ length u + length v = sum_length ts u v e in
+          subst (EndsWith c) (sym e) (ends_behind c u v (hs.ends x (n + length u) v
+          (short left n x u v fw (omega arith)) m))
+
+      goes_on : (left n : ℕ) (ts : List T) → length ts < b → (R left >>= S).marks n ts →
+          Possible ((R left >>= S).words n) ts
+      goes_on left n ts l (inl m) =
+          let r = hr.goes_on left n ts l m in
+          let s = hs.has r.1 (n + length (ts ++ r.0)) in
+          (r.0 ++ s.0, s.1, (ts ++ r.0, s.0, r.1, r.2, s.2, sym (append_assoc ts r.0 s.0)))
+      goes_on left n ts l (inr (u, v, x, fw, m, e)) =
+          let sum : length ts ≡ length u + length v = sum_length ts u v e in
+          let s = hs.goes_on x (n + length u) v (short left n x u v fw (omega arith)) m in
+          (s.0, s.1, (u, v ++ s.0, x, fw, s.2, ap (λ z. z ++ s.0) e ∙ append_assoc u v s.0))
+
+      marks : (left n : ℕ) (ts more : List T) (y : ℕ) → length (ts ++ more) < b →
+          (R left >>= S).words n (ts ++ more) y → left < count_by c ts → EndsWith c ts →
+          (R left >>= S).marks n ts
+      marks left n ts more y l (u, v, x, fw, gw, e) lt h =
+          let sum : length (ts ++ more) ≡ length u + length v = sum_length (ts ++ more) u v e in
+          let first : x ≡ left - count_by c u = hr.spent left n u x (omega arith) fw in
+          elim (split_front ts more u v e) [
+            | inl i ↦ inl (hr.marks left n ts i.0 x (subst (λ z. length z < b) i.1 (omega arith))
+                (subst (λ z. (R left).words n z x) i.1 fw) lt h)
+            | inr i ↦
+                let part : count_by c ts ≡ count_by c u + count_by c i.0 = count_sum c ts u i.0 i.1 in
+                let last : EndsWith c i.0 = ends_right c u i.0 (subst (EndsWith c) i.1 h) i.3 in
+                let some : 0 < count_by c i.0 = ends_counts c i.0 last in
+                inr (
+                  u,
+                  i.0,
+                  x,
+                  fw,
+                  hs.marks x (n + length u) i.0 more y (subst (λ z. length z < d) i.2
+                      (short left n x u v fw (omega arith)))
+                      (subst (λ z. (S x).words (n + length u) z y) i.2 gw) (omega arith) last,
+                  i.1,
+                )
+          ]
+
+  pub counts_then : (b : ℕ) (R S : ℕ → Form T ℕ) → Counts c b R → Counts c b S → Counts c b (λ left. R left >>= S)
+  counts_then b R S hr hs = counts_bind b b R S hr hs (λ left n x u v fw l. omega arith)
+
+  -- behind a token the bound is one more
+  pub counts_behind : (b : ℕ) (p : T → Bool) (w : T) (S : ℕ → Form T ℕ) → p w ≡ true →
+      ((t : T) → p t ≡ true → c t ≡ true) → Counts c b S →
+      Counts c (suc b) (λ left. counted p left >>= S)
+  counts_behind b p w S pw each hs = counts_bind (suc b) b (counted p) S (counts_counted (suc b) p w pw each) hs
+      (λ left n x u v (t, e, pt, ev) l. let one : length u ≡ 1 = ap length e in omega arith)
+
+  -- ---- a form that takes one token that does not count, and then one that counts
+
+  pub record Skips (f : Form T (Unit {0})) : Type 0 where
+    pub has : (n : ℕ) → (w : List T) × f.words n w tt
+    pub one : (n : ℕ) (ts : List T) → f.words n ts tt → (t : T) × (ts ≡ t ∷ []) × (c t ≡ false)
+    pub unmarked : (n : ℕ) (ts : List T) → f.marks n ts → ⊥
+
+  module _ (b : ℕ) (f : Form T (Unit {0})) (S : ℕ → Form T ℕ) (hf : Skips f) (hs : Counts c b S) where
+    skipped_none : (n : ℕ) (u : List T) → f.words n u tt → count_by c u ≡ 0
+    skipped_none n u fw = let o = hf.one n u fw in ap (count_by c) o.1 ∙ count_none c o.0 o.2
+
+    skipped_length : (n : ℕ) (u : List T) → f.words n u tt → length u ≡ 1
+    skipped_length n u fw = let o = hf.one n u fw in ap length o.1
+
+    pub counts_skip : Counts c (suc b) (λ left. f >>= (λ _. S left))
+    counts_skip = record { has = has; spent = spent; past = past; ends = ends; goes_on = goes_on; marks = marks }
+      where
+        has : (left n : ℕ) → (w : List T) × (v : ℕ) × (f >>= (λ _. S left)).words n w v
+        has left n =
+            let r = hf.has n in
+            let s = hs.has left (n + length r.0) in
+            (r.0 ++ s.0, s.1, (r.0, s.0, tt, r.1, s.2, refl))
+
+        spent : (left n : ℕ) (ts : List T) (y : ℕ) → length ts < suc b → (f >>= (λ _. S left)).words n ts y →
+            y ≡ left - count_by c ts
+        spent left n ts y l (u, v, x, fw, gw, e) =
+            let sum : length ts ≡ length u + length v = sum_length ts u v e in
+            let count : count_by c ts ≡ count_by c u + count_by c v = count_sum c ts u v e in
+            let none : count_by c u ≡ 0 = skipped_none n u fw in
+            let one : length u ≡ 1 = skipped_length n u fw in
+            let second : y ≡ left - count_by c v = hs.spent left (n + length u) v y (omega arith) gw in
+            omega arith
+
+        past : (left n : ℕ) (ts : List T) → length ts < suc b → (f >>= (λ _. S left)).marks n ts →
+            left < count_by c ts
+        past left n ts l (inl m) = absurd (hf.unmarked n ts m)
+        past left n ts l (inr (u, v, x, fw, m, e)) =
+            let sum : length ts ≡ length u + length v = sum_length ts u v e in
+            let count : count_by c ts ≡ count_by c u + count_by c v = count_sum c ts u v e in
+            let one : length u ≡ 1 = skipped_length n u fw in
+            let second : left < count_by c v = hs.past left (n + length u) v (omega arith) m in
+            omega arith
+
+        ends : (left n : ℕ) (ts : List T) → length ts < suc b → (f >>= (λ _. S left)).marks n ts → EndsWith c ts
+        ends left n ts l (inl m) = absurd (hf.unmarked n ts m)
+        ends left n ts l (inr (u, v, x, fw, m, e)) =
+            let sum : length ts ≡ length u + length v = sum_length ts u v e in
+            let one : length u ≡ 1 = skipped_length n u fw in
+            subst (EndsWith c) (sym e) (ends_behind c u v (hs.ends left (n + length u) v (omega arith) m))
+
+        goes_on : (left n : ℕ) (ts : List T) → length ts < suc b → (f >>= (λ _. S left)).marks n ts →
+            Possible ((f >>= (λ _. S left)).words n) ts
+        goes_on left n ts l (inl m) = absurd (hf.unmarked n ts m)
+        goes_on left n ts l (inr (u, v, x, fw, m, e)) =
+            let sum : length ts ≡ length u + length v = sum_length ts u v e in
+            let one : length u ≡ 1 = skipped_length n u fw in
+            let s = hs.goes_on left (n + length u) v (omega arith) m in
+            (s.0, s.1, (u, v ++ s.0, x, fw, s.2, ap (λ z. z ++ s.0) e ∙ append_assoc u v s.0))
+
+        marks : (left n : ℕ) (ts more : List T) (y : ℕ) → length (ts ++ more) < suc b →
+            (f >>= (λ _. S left)).words n (ts ++ more) y → left < count_by c ts → EndsWith c ts →
+            (f >>= (λ _. S left)).marks n ts
+        marks left n ts more y l (u, v, x, fw, gw, e) lt h =
+            let sum : length (ts ++ more) ≡ length u + length v = sum_length (ts ++ more) u v e in
+            let none : count_by c u ≡ 0 = skipped_none n u fw in
+            let one : length u ≡ 1 = skipped_length n u fw in
+            elim (split_front ts more u v e) [
+              | inl i ↦ absurd (omega (arith, count_sum c u ts i.0 i.1))
+              | inr i ↦
+                  let part : count_by c ts ≡ count_by c u + count_by c i.0 = count_sum c ts u i.0 i.1 in
+                  let behind : length v ≡ length (i.0 ++ more) = ap length i.2 in
+                  inr (
+                    u,
+                    i.0,
+                    x,
+                    fw,
+                    hs.marks left (n + length u) i.0 more y (omega arith)
+                        (subst (λ z. (S left).words (n + length u) z y) i.2 gw) (omega arith)
+                        (ends_right c u i.0 (subst (EndsWith c) i.1 h) i.3),
+                    i.1,
+                  )
+            ]
+
+  -- ---- the one or the other
+
+  pub counts_either : (b : ℕ) (R S : ℕ → Form T ℕ) → Counts c b R → Counts c b S →
+      Counts c b (λ left. either (R left) (S left))
+  counts_either b R S hr hs = record {
+    has = λ left n. let r = hr.has left n in (r.0, r.1, inl r.2);
+    spent = spent;
+    past = past;
+    ends = ends;
+    goes_on = goes_on;
+    marks = marks;
+  }
+    where
+      spent : (left n : ℕ) (ts : List T) (y : ℕ) → length ts < b → (either (R left) (S left)).words n ts y →
+          y ≡ left - count_by c ts
+      spent left n ts y l (inl w) = hr.spent left n ts y l w
+      spent left n ts y l (inr w) = hs.spent left n ts y l w
+
+      past : (left n : ℕ) (ts : List T) → length ts < b → (either (R left) (S left)).marks n ts →
+          left < count_by c ts
+      past left n ts l (inl m) = hr.past left n ts l m
+      past left n ts l (inr m) = hs.past left n ts l m
+
+      ends : (left n : ℕ) (ts : List T) → length ts < b → (either (R left) (S left)).marks n ts → EndsWith c ts
+      ends left n ts l (inl m) = hr.ends left n ts l m
+      ends left n ts l (inr m) = hs.ends left n ts l m
+
+      goes_on : (left n : ℕ) (ts : List T) → length ts < b → (either (R left) (S left)).marks n ts →
+          Possible ((either (R left) (S left)).words n) ts
+      goes_on left n ts l (inl m) = let r = hr.goes_on left n ts l m in (r.0, r.1, inl r.2)
+      goes_on left n ts l (inr m) = let r = hs.goes_on left n ts l m in (r.0, r.1, inr r.2)
+
+      marks : (left n : ℕ) (ts more : List T) (y : ℕ) → length (ts ++ more) < b →
+          (either (R left) (S left)).words n (ts ++ more) y → left < count_by c ts → EndsWith c ts →
+          (either (R left) (S left)).marks n ts
+      marks left n ts more y l (inl w) lt h = inl (hr.marks left n ts more y l w lt h)
+      marks left n ts more y l (inr w) lt h = inr (hs.marks left n ts more y l w lt h)
+
+  -- ---- any number of turns
+
+  plus_length : (n : ℕ) (u v : List T) → n + length (u ++ v) ≡ n + length u + length v
+  plus_length n u v = omega (arith, length-append u v)
+
+  module _ (b : ℕ) (p : ℕ → T → Bool) (f : ℕ → Form T ℕ) (h : Counts c b f) where
+    loop_spent : (i s n : ℕ) (ts : List T) (y : ℕ) → length ts < b → loop_words f i s n ts y →
+        y ≡ s - count_by c ts
+    loop_spent zero s n ts y l (e, ey) =
+        let none : length ts ≡ 0 = ap length e in
+        omega (arith, count_by-le-length c ts)
+    loop_spent (suc i) s n ts y l (u, v, x, fw, w, e) =
         let sum : length ts ≡ length u + length v = sum_length ts u v e in
-        let first : x ≡ left - length u = hr.spent left n u x (omega arith) fw in
-        let second : y ≡ x - length v = hs.spent x (n + length u) v y (short left n x u v fw (omega arith)) gw in
+        let count : count_by c ts ≡ count_by c u + count_by c v = count_sum c ts u v e in
+        let first : x ≡ s - count_by c u = h.spent s n u x (omega arith) fw in
+        let second : y ≡ x - count_by c v = loop_spent i x (n + length u) v y (omega arith) w in
         omega arith
 
-    past : (left n : ℕ) (ts : List T) → length ts < b → (R left >>= S).marks n ts → left < length ts
-    past left n ts l (inl m) = hr.past left n ts l m
-    past left n ts l (inr (u, v, x, fw, m, e)) =
-        let sum : length ts ≡ length u + length v = sum_length ts u v e in
-        let first : x ≡ left - length u = hr.spent left n u x (omega arith) fw in
-        let second : x < length v = hs.past x (n + length u) v (short left n x u v fw (omega arith)) m in
-        omega arith
+    -- one turn more at the end
+    loop_more : (i s n : ℕ) (u w : List T) (x y : ℕ) → loop_words f i s n u x → (f x).words (n + length u) w y →
+        loop_words f (suc i) s n (u ++ w) y
+    loop_more zero s n u w x y (e, ex) fw =
+        let fw1 : (f s).words (n + length u) w y = subst (λ z. (f z).words (n + length u) w y) ex fw in
+        let fw2 : (f s).words (n + 0) w y = subst (λ z. (f s).words (n + length z) w y) e fw1 in (
+          w,
+          [],
+          y,
+          subst (λ z. (f s).words z w y) (add-zero n) fw2,
+          (refl, refl),
+          ap (λ z. z ++ w) e ∙ sym (append-nil w),
+        )
+    loop_more (suc i) s n u w x y (u1, u2, x1, fw1, lw, e) fw =
+        let fw2 : (f x).words (n + length (u1 ++ u2)) w y = subst (λ z. (f x).words (n + length z) w y) e fw in
+        let fw3 : (f x).words (n + length u1 + length u2) w y = subst (λ z. (f x).words z w y) (plus_length n u1 u2)
+        fw2 in (
+          u1,
+          u2 ++ w,
+          x1,
+          fw1,
+          loop_more i x1 (n + length u1) u2 w x y lw fw3,
+          ap (λ z. z ++ w) e ∙ append_assoc u1 u2 w,
+        )
 
-    goes_on : (left n : ℕ) (ts : List T) → length ts < b → (R left >>= S).marks n ts →
-        Possible ((R left >>= S).words n) ts
-    goes_on left n ts l (inl m) =
-        let r = hr.goes_on left n ts l m in
-        let s = hs.has r.1 (n + length (ts ++ r.0)) in
-        (r.0 ++ s.0, s.1, (ts ++ r.0, s.0, r.1, r.2, s.2, sym (append_assoc ts r.0 s.0)))
-    goes_on left n ts l (inr (u, v, x, fw, m, e)) =
-        let sum : length ts ≡ length u + length v = sum_length ts u v e in
-        let s = hs.goes_on x (n + length u) v (short left n x u v fw (omega arith)) m in
-        (s.0, s.1, (u, v ++ s.0, x, fw, s.2, ap (λ z. z ++ s.0) e ∙ append_assoc u v s.0))
-
-    marks : (left n : ℕ) (ts more : List T) (y : ℕ) → length (ts ++ more) < b →
-        (R left >>= S).words n (ts ++ more) y → left < length ts →
-        (R left >>= S).marks n ts
-    marks left n ts more y l (u, v, x, fw, gw, e) lt =
+    loop_marks : (i s n : ℕ) (ts more : List T) (y : ℕ) → length (ts ++ more) < b →
+        loop_words f i s n (ts ++ more) y → s < count_by c ts → EndsWith c ts → (loop p f s).marks n ts
+    loop_marks zero s n ts more y l (e, ey) lt last =
+        let none : length (ts ++ more) ≡ 0 = ap length e in
+        absurd (omega (arith, length-append ts more, count_by-le-length c ts))
+    loop_marks (suc i) s n ts more y l (u, v, x, fw, w, e) lt last =
         let sum : length (ts ++ more) ≡ length u + length v = sum_length (ts ++ more) u v e in
-        let first : x ≡ left - length u = hr.spent left n u x (omega arith) fw in
+        let first : x ≡ s - count_by c u = h.spent s n u x (omega arith) fw in
         elim (split_front ts more u v e) [
-          | inl i ↦ inl (hr.marks left n ts i.0 x (subst (λ z. length z < b) i.1 (omega arith))
-              (subst (λ z. (R left).words n z x) i.1 fw) lt)
-          | inr i ↦
-              let part : length ts ≡ length u + length i.0 = sum_length ts u i.0 i.1 in
-              let some : 0 < length i.0 = i.3 in
-              inr (
-                u,
-                i.0,
-                x,
-                fw,
-                hs.marks x (n + length u) i.0 more y (subst (λ z. length z < c) i.2
-                    (short left n x u v fw (omega arith)))
-                    (subst (λ z. (S x).words (n + length u) z y) i.2 gw) (omega arith),
-                i.1,
+          | inl d ↦ (
+            0,
+            [],
+            ts,
+            s,
+            (refl, refl),
+            subst (λ z. (f s).marks z ts) (sym (add-zero n))
+                (h.marks s n ts d.0 x (subst (λ z. length z < b) d.1 (omega arith))
+                (subst (λ z. (f s).words n z x) d.1 fw) lt last),
+            refl,
+          )
+          | inr d ↦
+              let part : count_by c ts ≡ count_by c u + count_by c d.0 = count_sum c ts u d.0 d.1 in
+              let end : EndsWith c d.0 = ends_right c u d.0 (subst (EndsWith c) d.1 last) d.3 in
+              let some : 0 < count_by c d.0 = ends_counts c d.0 end in
+              let m = loop_marks i x (n + length u) d.0 more y (subst (λ z. length z < b) d.2 (omega arith))
+              (subst (λ z. loop_words f i x (n + length u) z y) d.2 w) (omega arith) end in (
+                suc m.0,
+                u ++ m.1,
+                m.2,
+                m.3,
+                (u, m.1, x, fw, m.4, refl),
+                subst (λ z. (f m.3).marks z m.2) (sym (plus_length n u m.1)) m.5,
+                d.1 ∙ ap (λ z. u ++ z) m.6 ∙ sym (append_assoc u m.1 m.2),
               )
         ]
 
-pub counts_then : {T : Type 0} (b : ℕ) (R S : ℕ → Form T ℕ) → Counts b R → Counts b S → Counts b (λ left. R left >>= S)
-counts_then b R S hr hs = counts_bind b b R S hr hs (λ left n x u v fw l. omega arith)
-
--- behind a token the bound is one more
-pub counts_behind : {T : Type 0} (b : ℕ) (p : T → Bool) (w : T) (S : ℕ → Form T ℕ) → p w ≡ true → Counts b S →
-    Counts (suc b) (λ left. counted p left >>= S)
-counts_behind b p w S pw hs = counts_bind (suc b) b (counted p) S (counts_counted (suc b) p w pw) hs
-    (λ left n x u v (t, e, pt, ev) l. let one : length u ≡ 1 = ap length e in omega arith)
-
--- ---- the one or the other
-
-pub counts_either : {T : Type 0} (b : ℕ) (R S : ℕ → Form T ℕ) → Counts b R → Counts b S →
-    Counts b (λ left. either (R left) (S left))
-counts_either {T} b R S hr hs = record {
-  has = λ left n. let r = hr.has left n in (r.0, r.1, inl r.2);
-  spent = spent;
-  past = past;
-  goes_on = goes_on;
-  marks = marks;
-}
-  where
-    spent : (left n : ℕ) (ts : List T) (y : ℕ) → length ts < b → (either (R left) (S left)).words n ts y →
-        y ≡ left - length ts
-    spent left n ts y l (inl w) = hr.spent left n ts y l w
-    spent left n ts y l (inr w) = hs.spent left n ts y l w
-
-    past : (left n : ℕ) (ts : List T) → length ts < b → (either (R left) (S left)).marks n ts → left < length ts
-    past left n ts l (inl m) = hr.past left n ts l m
-    past left n ts l (inr m) = hs.past left n ts l m
-
-    goes_on : (left n : ℕ) (ts : List T) → length ts < b → (either (R left) (S left)).marks n ts →
-        Possible ((either (R left) (S left)).words n) ts
-    goes_on left n ts l (inl m) = let r = hr.goes_on left n ts l m in (r.0, r.1, inl r.2)
-    goes_on left n ts l (inr m) = let r = hs.goes_on left n ts l m in (r.0, r.1, inr r.2)
-
-    marks : (left n : ℕ) (ts more : List T) (y : ℕ) → length (ts ++ more) < b →
-        (either (R left) (S left)).words n (ts ++ more) y → left < length ts →
-        (either (R left) (S left)).marks n ts
-    marks left n ts more y l (inl w) lt = inl (hr.marks left n ts more y l w lt)
-    marks left n ts more y l (inr w) lt = inr (hs.marks left n ts more y l w lt)
-
--- ---- any number of turns
-
-plus_length : {T : Type 0} (n : ℕ) (u v : List T) → n + length (u ++ v) ≡ n + length u + length v
-plus_length n u v = omega (arith, length-append u v)
-
-module _ {T : Type 0} (b : ℕ) (p : ℕ → T → Bool) (f : ℕ → Form T ℕ) (h : Counts b f) where
-  loop_spent : (i s n : ℕ) (ts : List T) (y : ℕ) → length ts < b → loop_words f i s n ts y → y ≡ s - length ts
-  loop_spent zero s n ts y l (e, ey) = let none : length ts ≡ 0 = ap length e in omega arith
-  loop_spent (suc i) s n ts y l (u, v, x, fw, w, e) =
-      let sum : length ts ≡ length u + length v = sum_length ts u v e in
-      let first : x ≡ s - length u = h.spent s n u x (omega arith) fw in
-      let second : y ≡ x - length v = loop_spent i x (n + length u) v y (omega arith) w in
-      omega arith
-
-  -- one turn more at the end
-  loop_more : (i s n : ℕ) (u w : List T) (x y : ℕ) → loop_words f i s n u x → (f x).words (n + length u) w y →
-      loop_words f (suc i) s n (u ++ w) y
-  loop_more zero s n u w x y (e, ex) fw =
-      let fw1 : (f s).words (n + length u) w y = subst (λ z. (f z).words (n + length u) w y) ex fw in
-      let fw2 : (f s).words (n + 0) w y = subst (λ z. (f s).words (n + length z) w y) e fw1 in
-      (w, [], y, subst (λ z. (f s).words z w y) (add-zero n) fw2, (refl, refl), ap (λ z. z ++ w) e ∙ sym (append-nil w))
-  loop_more (suc i) s n u w x y (u1, u2, x1, fw1, lw, e) fw =
-      let fw2 : (f x).words (n + length (u1 ++ u2)) w y = subst (λ z. (f x).words (n + length z) w y) e fw in
-      let fw3 : (f x).words (n + length u1 + length u2) w y = subst (λ z. (f x).words z w y) (plus_length n u1 u2) fw2
-      in
-      (u1, u2 ++ w, x1, fw1, loop_more i x1 (n + length u1) u2 w x y lw fw3, ap (λ z. z ++ w) e ∙ append_assoc u1 u2 w)
-
-  loop_marks : (i s n : ℕ) (ts more : List T) (y : ℕ) → length (ts ++ more) < b → loop_words f i s n (ts ++ more) y →
-      s < length ts → (loop p f s).marks n ts
-  loop_marks zero s n ts more y l (e, ey) lt = let none : length (ts ++ more) ≡ 0 = ap length e in absurd
-      (omega (arith, length-append ts more))
-  loop_marks (suc i) s n ts more y l (u, v, x, fw, w, e) lt =
-      let sum : length (ts ++ more) ≡ length u + length v = sum_length (ts ++ more) u v e in
-      let first : x ≡ s - length u = h.spent s n u x (omega arith) fw in
-      elim (split_front ts more u v e) [
-        | inl d ↦ (
-          0,
-          [],
-          ts,
-          s,
-          (refl, refl),
-          subst (λ z. (f s).marks z ts) (sym (add-zero n))
-              (h.marks s n ts d.0 x (subst (λ z. length z < b) d.1 (omega arith))
-              (subst (λ z. (f s).words n z x) d.1 fw) lt),
-          refl,
-        )
-        | inr d ↦
-            let part : length ts ≡ length u + length d.0 = sum_length ts u d.0 d.1 in
-            let some : 0 < length d.0 = d.3 in
-            let m = loop_marks i x (n + length u) d.0 more y (subst (λ z. length z < b) d.2 (omega arith))
-            (subst (λ z. loop_words f i x (n + length u) z y) d.2 w) (omega arith) in (
-              suc m.0,
-              u ++ m.1,
-              m.2,
-              m.3,
-              (u, m.1, x, fw, m.4, refl),
-              subst (λ z. (f m.3).marks z m.2) (sym (plus_length n u m.1)) m.5,
-              d.1 ∙ ap (λ z. u ++ z) m.6 ∙ sym (append_assoc u m.1 m.2),
-            )
-      ]
-
-  pub counts_loop : Counts b (loop p f)
-  counts_loop = record {
-    has = λ left n. ([], left, (0, (refl, refl)));
-    spent = λ left n ts v l w. loop_spent w.0 left n ts v l w.1;
-    past = past;
-    goes_on = goes_on;
-    marks = λ left n ts more v l w lt. loop_marks w.0 left n ts more v l w.1 lt;
-  }
-    where
-      past : (left n : ℕ) (ts : List T) → length ts < b → (loop p f left).marks n ts → left < length ts
-      past left n ts l (i, u, v, x, w, m, e) =
-          let sum : length ts ≡ length u + length v = sum_length ts u v e in
-          let first : x ≡ left - length u = loop_spent i left n u x (omega arith) w in
-          let second : x < length v = h.past x (n + length u) v (omega arith) m in
-          omega arith
-
-      goes_on : (left n : ℕ) (ts : List T) → length ts < b → (loop p f left).marks n ts →
-          Possible ((loop p f left).words n) ts
-      goes_on left n ts l (i, u, v, x, w, m, e) =
-          let sum : length ts ≡ length u + length v = sum_length ts u v e in
-          let g = h.goes_on x (n + length u) v (omega arith) m in (
-            g.0,
-            g.1,
-            (
-              suc i,
-              subst (λ z. loop_words f (suc i) left n z g.1)
-                  (sym (ap (λ z. z ++ g.0) e ∙ append_assoc u v g.0)) (loop_more i left n u (v ++ g.0) x g.1 w g.2),
-            ),
-          )
-
--- ---- a form that stands in itself
-
-pub counts_nested : {T : Type 0} (p : T → Bool) (body : (ℕ → Form T ℕ) → ℕ → Form T ℕ) → Grows body → Lessens body →
-    ((left n : ℕ) → (w : List T) × (v : ℕ) × (nested p body left).words n w v) →
-    ((b : ℕ) → Counts b (nested p body) → Counts (suc b) (body (nested p body))) → (b : ℕ) → Counts b (nested p body)
-counts_nested p body grows lessens word step zero = record {
-  has = word;
-  spent = λ left n ts v l w. absurd (omega arith);
-  past = λ left n ts l m. absurd (omega arith);
-  goes_on = λ left n ts l m. absurd (omega arith);
-  marks = λ left n ts more v l w lt. absurd (omega arith);
-}
-counts_nested {T} p body grows lessens word step (suc b) =
-    let h : Counts (suc b) (body (nested p body)) = step b (counts_nested p body grows lessens word step b) in
-    record {
-      has = word;
-      spent = λ left n ts v l w. h.spent left n ts v l ((same left).no_words n ts v w);
-      past = λ left n ts l m. h.past left n ts l ((same left).no_marks n ts m);
-      goes_on = λ left n ts l m. let g = h.goes_on left n ts l ((same left).no_marks n ts m)
-          in (g.0, g.1, (same left).words n (ts ++ g.0) g.1 g.2);
-      marks = λ left n ts more v l w lt. (same left).marks n ts
-          (h.marks left n ts more v l ((same left).no_words n (ts ++ more) v w) lt);
+    pub counts_loop : Counts c b (loop p f)
+    counts_loop = record {
+      has = λ left n. ([], left, (0, (refl, refl)));
+      spent = λ left n ts v l w. loop_spent w.0 left n ts v l w.1;
+      past = past;
+      ends = ends;
+      goes_on = goes_on;
+      marks = λ left n ts more v l w lt last. loop_marks w.0 left n ts more v l w.1 lt last;
     }
-  where
-    same : (left : ℕ) → Same (body (nested p body) left) (nested p body left)
-    same left = unroll p body grows lessens left
+      where
+        past : (left n : ℕ) (ts : List T) → length ts < b → (loop p f left).marks n ts → left < count_by c ts
+        past left n ts l (i, u, v, x, w, m, e) =
+            let sum : length ts ≡ length u + length v = sum_length ts u v e in
+            let count : count_by c ts ≡ count_by c u + count_by c v = count_sum c ts u v e in
+            let first : x ≡ left - count_by c u = loop_spent i left n u x (omega arith) w in
+            let second : x < count_by c v = h.past x (n + length u) v (omega arith) m in
+            omega arith
+
+        ends : (left n : ℕ) (ts : List T) → length ts < b → (loop p f left).marks n ts → EndsWith c ts
+        ends left n ts l (i, u, v, x, w, m, e) =
+            let sum : length ts ≡ length u + length v = sum_length ts u v e in
+            subst (EndsWith c) (sym e) (ends_behind c u v (h.ends x (n + length u) v (omega arith) m))
+
+        goes_on : (left n : ℕ) (ts : List T) → length ts < b → (loop p f left).marks n ts →
+            Possible ((loop p f left).words n) ts
+        goes_on left n ts l (i, u, v, x, w, m, e) =
+            let sum : length ts ≡ length u + length v = sum_length ts u v e in
+            let g = h.goes_on x (n + length u) v (omega arith) m in (
+              g.0,
+              g.1,
+              (
+                suc i,
+                subst (λ z. loop_words f (suc i) left n z g.1)
+                    (sym (ap (λ z. z ++ g.0) e ∙ append_assoc u v g.0)) (loop_more i left n u (v ++ g.0) x g.1 w g.2),
+              ),
+            )
+
+  -- ---- a form that stands in itself
+
+  pub counts_nested : (p : T → Bool) (body : (ℕ → Form T ℕ) → ℕ → Form T ℕ) → Grows body → Lessens body →
+      ((left n : ℕ) → (w : List T) × (v : ℕ) × (nested p body left).words n w v) →
+      ((b : ℕ) → Counts c b (nested p body) → Counts c (suc b) (body (nested p body))) → (b : ℕ) →
+      Counts c b (nested p body)
+  counts_nested p body grows lessens word step zero = record {
+    has = word;
+    spent = λ left n ts v l w. absurd (omega arith);
+    past = λ left n ts l m. absurd (omega arith);
+    ends = λ left n ts l m. absurd (omega arith);
+    goes_on = λ left n ts l m. absurd (omega arith);
+    marks = λ left n ts more v l w lt last. absurd (omega arith);
+  }
+  counts_nested p body grows lessens word step (suc b) =
+      let h : Counts c (suc b) (body (nested p body)) = step b (counts_nested p body grows lessens word step b) in
+      record {
+        has = word;
+        spent = λ left n ts v l w. h.spent left n ts v l ((same left).no_words n ts v w);
+        past = λ left n ts l m. h.past left n ts l ((same left).no_marks n ts m);
+        ends = λ left n ts l m. h.ends left n ts l ((same left).no_marks n ts m);
+        goes_on = λ left n ts l m. let g = h.goes_on left n ts l ((same left).no_marks n ts m)
+            in (g.0, g.1, (same left).words n (ts ++ g.0) g.1 g.2);
+        marks = λ left n ts more v l w lt last. (same left).marks n ts
+            (h.marks left n ts more v l ((same left).no_words n (ts ++ more) v w) lt last);
+      }
+    where
+      same : (left : ℕ) → Same (body (nested p body) left) (nested p body left)
+      same left = unroll p body grows lessens left
+
+  -- ---- which fronts are marks, and which is the first
+
+  module _ (R : ℕ → Form T ℕ) (h : (b : ℕ) → Counts c b R) (left n : ℕ) where
+    -- what ends with a token that counts and has too many is marked
+    pub marked : (front more : List T) (v : ℕ) → (R left).words n (front ++ more) v → left < count_by c front →
+        EndsWith c front → (R left).marks n front
+    marked front more v w lt last = (h (suc (length (front ++ more)))).marks left n front more v (omega arith) w lt last
+
+    pub marks_are : (front : List T) → (R left).marks n front ↔
+        (EndsWith c front × (left < count_by c front) × Possible ((R left).words n) front)
+    marks_are front = (
+      λ m. (
+        there.ends left n front (omega arith) m,
+        there.past left n front (omega arith) m,
+        there.goes_on left n front (omega arith) m,
+      ),
+      λ (last, lt, (more, v, w)). marked front more v w lt last,
+    )
+      where
+        there : Counts c (suc (length front)) R
+        there = h (suc (length front))
+
+    -- a front that has too many has a mark in it
+    not_unmarked : (front more : List T) (v : ℕ) → (R left).words n (front ++ more) v → left < count_by c front →
+        Unmarked ((R left).marks n) front → ⊥
+    not_unmarked front more v w lt un =
+        let t = trimmed c front (omega arith) in
+        un t.0 t.1 t.2 (marked t.0 (t.1 ++ more) v
+        (subst (λ z. (R left).words n z v) (ap (λ z. z ++ more) t.2 ∙ append_assoc t.0 t.1 more) w) (omega (arith, t.4))
+        t.3)
+
+    -- the first mark ends with the token that is one too many
+    pub first_mark : (front : List T) (t : T) → IsFirstMark ((R left).marks n) front t ↔
+        ((c t ≡ true) × (count_by c front ≡ left) × Possible ((R left).words n) (front ++ t ∷ []))
+    first_mark front t = (there, back)
+      where
+        there : IsFirstMark ((R left).marks n) front t →
+            (c t ≡ true) × (count_by c front ≡ left) × Possible ((R left).words n) (front ++ t ∷ [])
+        there (m, un) =
+            let k = (marks_are (front ++ t ∷ [])).0 m in
+            let possible : Possible ((R left).words n) (front ++ t ∷ []) = k.2 in
+            let last : EndsWith c (t ∷ []) = ends_right c front (t ∷ []) k.0 (omega arith) in
+            let this : c t ≡ true = only_last last in
+            let word : (R left).words n (front ++ (t ∷ possible.0)) possible.1 =
+            subst (λ z. (R left).words n z possible.1) (append_assoc front (t ∷ []) possible.0) possible.2 in
+            let no : left < count_by c front → ⊥ = λ lt. not_unmarked front (t ∷ possible.0) possible.1 word lt un in
+            (this, omega (arith, no, k.1, count_append c front (t ∷ []), count_one c t this), possible)
+          where
+            only_last : EndsWith c (t ∷ []) → c t ≡ true
+            only_last ([], x, e, cx) = subst (λ z. c z ≡ true) (sym (head_is t x [] [] e)) cx
+            only_last (y ∷ ys, x, e, cx) =
+                let len : 0 ≡ length (ys ++ x ∷ []) = ap length (tail_is t y [] (ys ++ x ∷ []) e) in
+                absurd (omega (arith, length-append ys (x ∷ [])))
+
+        back : (c t ≡ true) × (count_by c front ≡ left) × Possible ((R left).words n) (front ++ t ∷ []) →
+            IsFirstMark ((R left).marks n) front t
+        back (this, count, (more, v, w)) = (
+          marked (front ++ t ∷ []) more v w
+              (omega (arith, count_append c front (t ∷ []), count_one c t this, count)) (front, t, refl, this),
+          λ u r e m. absurd (omega (arith, ((marks_are u).0 m).1, count_sum c front u r e, count)),
+        )

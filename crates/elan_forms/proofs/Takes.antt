@@ -438,10 +438,10 @@ loop_turn {T} {S} p f h s n (t ∷ ts) = ap (λ a. cond (p s t) a (done s n (t �
     go (refused why r) e = refl
 
 -- what is exact reads a whole text
-pub whole_gives : {T K V : Type 0} (kind : T → K) (p q : K → Bool) (f : Form T V) → ((m : ℕ) → Takes kind m p q f) →
+pub whole_gives : {T K V : Type 0} (kind : T → K) (p q : K → Bool) (f : Form T V) → ((m : ℕ) → Stands kind m p q f) →
     (ts : List T) →
     Gives ((whole f).words 0) ((whole f).marks 0) ts ((whole f).read 0 ts)
-whole_gives kind p q f h ts = (whole_good (suc (length ts)) (on kind q) f (so (h (suc (length ts)))).exact).reads 0 ts
+whole_gives kind p q f h ts = (whole_good (suc (length ts)) (on kind q) f (h (suc (length ts))).exact).reads 0 ts
     (omega arith)
 
 -- A form that stands in itself: its law follows from that of its body, given the law of the form in it up to a bound.

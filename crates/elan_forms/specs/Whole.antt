@@ -1,5 +1,5 @@
 -- What reading a whole text may answer, for a language of whole texts and the marks at which a text is too long.
-use Rattle.std.specs.Prelude.{◌≡◌, ℕ, ◌+◌, ◌<◌, ◌≤◌, List, [], ◌∷◌, ◌++◌, length, take, drop}
+use Rattle.std.specs.Prelude.{◌≡◌, ℕ, ◌+◌, ◌<◌, ◌≤◌, Bool, true, List, [], ◌∷◌, ◌++◌, length, take, drop}
 use Rattle.elan_forms.specs.declared.why.Why.{Why}
 use Rattle.elan_forms.specs.declared.why.Why.TheVariants.{Unexpected, TooMany}
 
@@ -73,3 +73,11 @@ pub record ExceedsAt {T V : Type 0} (W : List T → V → Type 0) (M : List T �
     pub possible : Possible W (take (at + 1) ts)
     pub marked : M (take (at + 1) ts)
     pub unmarked : Unmarked M (take at ts)
+
+-- the last token passes the test
+abbrev pub EndsWith : {T : Type 0} → (T → Bool) → List T → Type 0
+EndsWith {T} p ts = (front : List T) × (token : T) × (ts ≡ front ++ token ∷ []) × (p token ≡ true)
+
+-- the front is a mark with this token behind it, and no front before it is one
+abbrev pub IsFirstMark : {T : Type 0} → (List T → Type 0) → List T → T → Type 0
+IsFirstMark M front token = M (front ++ token ∷ []) × Unmarked M front

@@ -142,11 +142,11 @@ canon-sort shapes = cases_term (λ t. sort_of shapes (canon shapes t) ≡ sort_o
 -- ---- its validity
 
 -- what an associative and commutative operator takes: at least two arguments, all of its own sort
-record TakesAlike (shapes : Shapes) (o : Option Shape) (ts : List Term) : Type 0 where
-  sort : SortId
-  own : shape_sort o ≡ Some sort
-  two : 2 ≤ length ts
-  alike : AllOf (λ t. HasSort shapes t sort) ts
+pub record TakesAlike (shapes : Shapes) (o : Option Shape) (ts : List Term) : Type 0 where
+  pub sort : SortId
+  pub own : shape_sort o ≡ Some sort
+  pub two : 2 ≤ length ts
+  pub alike : AllOf (λ t. HasSort shapes t sort) ts
 
 takes_alike : (shapes : Shapes) (o : Option Shape) (ts : List Term) → shape_ac o ≡ true → MayTake shapes o ts → TakesAlike shapes o ts
 takes_alike shapes None ts ac h = absurd h
@@ -154,11 +154,11 @@ takes_alike shapes (Some shape) ts ac h =
     let k : (2 ≤ length ts) × All (λ t. HasSort shapes t shape.sort) ts = match_true shape.ac _ _ ac h in
     record { sort = shape.sort; own = refl; two = k.0; alike = all_of (λ t. HasSort shapes t shape.sort) ts k.1 }
 
-at_true : (b : Bool) (P Q : Type 0) → b ≡ true → P → MatchBool b P Q
+pub at_true : (b : Bool) (P Q : Type 0) → b ≡ true → P → MatchBool b P Q
 at_true true P Q e p = p
 at_true false P Q e p = not_true (sym e)
 
-at_false : (b : Bool) (P Q : Type 0) → b ≡ false → Q → MatchBool b P Q
+pub at_false : (b : Bool) (P Q : Type 0) → b ≡ false → Q → MatchBool b P Q
 at_false true P Q e q = not_true e
 at_false false P Q e q = q
 
@@ -183,11 +183,11 @@ valid_app shapes op ts h = throughout_app (IsNumber shapes) (IsAllowed shapes) o
 pub app_valid : (shapes : Shapes) (op : OpId) (ts : List Term) → IsAllowed shapes op ts → AllOf (IsValid shapes) ts → IsValid shapes (app_term op ts)
 app_valid shapes op ts h k = app_throughout (IsNumber shapes) (IsAllowed shapes) op ts h k
 
-ac_takes : (shapes : Shapes) (op : OpId) (ts : List Term) → is_ac shapes op ≡ true → IsAllowed shapes op ts → TakesAlike shapes (slice_get shapes.shapes op.0) ts
+pub ac_takes : (shapes : Shapes) (op : OpId) (ts : List Term) → is_ac shapes op ≡ true → IsAllowed shapes op ts → TakesAlike shapes (slice_get shapes.shapes op.0) ts
 unfolding is_ac
 ac_takes shapes op ts ac h = takes_alike shapes (slice_get shapes.shapes op.0) ts ac h
 
-takes_ac : (shapes : Shapes) (op : OpId) (ts : List Term) (s : SortId) → is_ac shapes op ≡ true → shape_sort (slice_get shapes.shapes op.0) ≡ Some s → 2 ≤ length ts → AllOf (λ t. HasSort shapes t s) ts → IsAllowed shapes op ts
+pub takes_ac : (shapes : Shapes) (op : OpId) (ts : List Term) (s : SortId) → is_ac shapes op ≡ true → shape_sort (slice_get shapes.shapes op.0) ≡ Some s → 2 ≤ length ts → AllOf (λ t. HasSort shapes t s) ts → IsAllowed shapes op ts
 unfolding is_ac
 takes_ac shapes op ts s ac own two h = alike_takes shapes (slice_get shapes.shapes op.0) ts s ac own two h
 

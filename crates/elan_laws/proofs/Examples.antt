@@ -1,5 +1,5 @@
 -- Examples, computed from the definitions.
-use Rattle.std.proofs.Common.{◌≡◌, refl, ℕ, pos, List, [], ◌∷◌, true, false, arith}
+use Rattle.std.proofs.Common.{◌≡◌, refl, ap, ℕ, pos, List, [], ◌∷◌, true, false, length, arith}
 use Rattle.std.specs.Prelude.{None}
 use denote.Hole.Carrier.{hidden}
 use Rattle.elan_terms.specs.declared.tree.OpId.{OpId}
@@ -12,15 +12,17 @@ use Rattle.elan_terms.specs.declared.tree.Pattern.{Pattern}
 use Rattle.elan_terms.specs.declared.tree.PatternNode as pattern
 use Rattle.elan_terms.specs.declared.tree.PatternNode.TheBlock.{shape-the_row-Pattern-0, hidden-the_row-Pattern-0}
 use Rattle.elan_terms.specs.Trees.{app_term, int_term}
-use Rattle.elan_terms.specs.Term.{order, is_ac, sort_of}
-use Rattle.elan_terms.specs.Match.{pieces, pieces_at, parts}
+use Rattle.elan_terms.specs.Term.{order, arms_under, canon, node, is_ac, sort_of}
+use Rattle.elan_terms.specs.Match.{pieces, pieces_at, parts, variables, occurrences}
 use Rattle.elan_laws.specs.Valid.{HasSort, IsValid}
 use Rattle.elan_laws.specs.Ascending.{NotAfter}
-use Rattle.elan_laws.specs.Canonical.{IsCanonical}
-use Rattle.elan_laws.specs.Parts.{none, taken, left, IsPart, some}
-use Rattle.elan_laws.specs.Matching.{filled}
+use Rattle.elan_laws.specs.Canonical.{is_headed, IsSettled, IsCanonical}
+use Rattle.elan_laws.specs.Parts.{none, taken, left, IsPart, whole, inside, some}
+use Rattle.elan_laws.specs.Matching.{filled, IsMatch}
 use Rattle.elan_laws.specs.Equality.{EqualModulo, symmetric, transitive, congruent, commutative, associative, nested}
-use Rattle.elan_laws.proofs.Lists.{all_from, pairs_of}
+use Rattle.elan_laws.proofs.Lists.{all_from, pairs_of, pairs_from}
+use Rattle.elan_laws.proofs.CanonicalLaws.{app_canonical}
+use Rattle.elan_laws.proofs.EqualityLaws.{equal-canon}
 
 -- the one sort
 abbrev s : SortId
@@ -87,6 +89,20 @@ no_integers h = not_there h.1
     not_there : false ≡ true → ⊥
     not_there e = cc
 
+-- a U a U b is canonical
+two_alike_are_canonical : IsCanonical sets (U (a ∷ a ∷ b ∷ []))
+unfolding is_ac order shape-the_row-Term-0 hidden-the_row-Term-0 hidden
+two_alike_are_canonical =
+    app_canonical sets (op 3) (a ∷ a ∷ b ∷ [])
+    (λ ac. (
+      all_from (λ t. is_headed (op 3) t ≡ false) (a ∷ a ∷ b ∷ []) (refl, (refl, (refl, tt))),
+      pairs_from NotAfter (a ∷ a ∷ b ∷ []) ((refl, (refl, tt)), ((refl, tt), (tt, tt))),
+    ))
+    (app_canonical sets (op 0) [] (none_here 0) tt, (app_canonical sets (op 0) [] (none_here 0) tt, (app_canonical sets (op 1) [] (none_here 1) tt, tt)))
+  where
+    none_here : (n : ℕ) → IsSettled sets (op n) []
+    none_here n ac = (all_from (λ t. is_headed (op n) t ≡ false) [] tt, pairs_from NotAfter [] tt)
+
 -- b U a does not ascend
 descending_is_not_canonical : IsCanonical sets (U (b ∷ a ∷ [])) → ⊥
 unfolding is_ac order shape-the_row-Term-0 hidden-the_row-Term-0 hidden
@@ -116,3 +132,23 @@ brackets_move =
 two_filled : filled (λ x. U (b ∷ c ∷ [])) (record { node = pattern.App (op 3) (var 0 ∷ var 1 ∷ []) }) ≡ U (U (b ∷ c ∷ []) ∷ U (b ∷ c ∷ []) ∷ [])
 unfolding filled shape-the_row-Term-0 hidden-the_row-Term-0 shape-the_row-Pattern-0 hidden-the_row-Pattern-0 hidden
 two_filled = refl
+
+-- X U Y over two variables
+abbrev pair : Pattern
+pair = record { node = pattern.App (op 3) (var 0 ∷ var 1 ∷ []) }
+
+-- with a for X and b U c for Y it is a U b U c
+a_match : IsMatch sets pair (U (a ∷ b ∷ c ∷ [])) (a ∷ U (b ∷ c ∷ []) ∷ [])
+unfolding variables occurrences filled canon node is_ac sort_of order shape-the_row-Term-0 hidden-the_row-Term-0 shape-the_row-Pattern-0 hidden-the_row-Pattern-0 hidden
+a_match = record {
+  given = (
+    (inside (op 3) (a ∷ b ∷ c ∷ []) a (0, omega arith, refl) (whole refl), refl),
+    ((some (op 3) (a ∷ b ∷ c ∷ []) (b ∷ c ∷ []) refl (left (taken (taken none))) (omega arith) refl, refl), tt),
+  );
+  makes = refl;
+}
+
+-- a U a is not a U a U a: the equations do not drop what is repeated
+repeated_ones_count : EqualModulo sets (U (a ∷ a ∷ [])) (U (a ∷ a ∷ a ∷ [])) → ⊥
+unfolding canon node is_ac order shape-the_row-Term-0 hidden-the_row-Term-0 hidden
+repeated_ones_count h = omega (arith, ap (λ t. length (arms_under (op 3) t)) (equal-canon sets (U (a ∷ a ∷ [])) (U (a ∷ a ∷ a ∷ [])) h))

@@ -1,6 +1,6 @@
 -- Injections have no cycle exactly where no chain of them is longer than there are sorts.
-use Rattle.std.proofs.Common.{◌≡◌, refl, sym, ap, subst, ◌∙◌, ◌⊎◌, inl, inr, ⊎_elim, ℕ, zero, suc, ◌+◌, ◌<◌, ◌≤◌, Bool, true, false, not, ◌||◌, ◌==◌, if◌then◌else◌, ◌↔◌, List, [], ◌∷◌, length, slice_index_or, arith}
-use Rattle.std.specs.List.{Contains, All, filter, list_any}
+use Rattle.std.proofs.Common.{◌≡◌, refl, sym, ap, subst, ◌∙◌, ◌⊎◌, inl, inr, ⊎_elim, ℕ, zero, suc, ◌<◌, ◌≤◌, Bool, true, false, not, ◌||◌, ◌==◌, if◌then◌else◌, ◌↔◌, List, [], ◌∷◌, length, slice_index_or, arith}
+use Rattle.std.specs.List.{Contains, filter, list_any}
 use Rattle.std.specs.Cmp.{unsigned_Decides}
 use Rattle.elan_program.specs.declared.signature.Signature.{Signature}
 use Rattle.elan_program.specs.Soundness.{chains, led_on, is_some_list, injections, has_no_cycle}

@@ -9,6 +9,7 @@ pub mod TimesLaws
 pub mod MatchLaws
 pub mod Multisets
 pub mod EqualityLaws
+pub mod SortLaws
 pub mod TestLemmas
 mod Examples
 pub mod InjectionLaws

@@ -97,7 +97,7 @@ matches-ascend shapes p t =
 
 -- ---- the assignments
 
-is_sort-some : (o : Option SortId) (s : SortId) → is_sort o s ≡ true → o ≡ Some s
+pub is_sort-some : (o : Option SortId) (s : SortId) → is_sort o s ≡ true → o ≡ Some s
 is_sort-some None s e = not_true (sym e)
 is_sort-some (Some r) s e = ap (λ (n : ℕ). Some (record { 0 = n })) (eqb-true r.0 s.0 e)
 

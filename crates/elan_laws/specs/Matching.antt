@@ -10,12 +10,16 @@ use Rattle.elan_terms.specs.declared.tree.Shapes.{Shapes}
 use Rattle.elan_terms.specs.Trees.{fold_pattern, int_term, app_term}
 use Rattle.elan_terms.specs.Term.{order, canon}
 use Rattle.elan_terms.specs.Match.{variables, bound}
-use Rattle.elan_laws.specs.Valid.{HasSort}
+use Rattle.elan_laws.specs.Valid.{HasSort, IsValidOf}
 use Rattle.elan_laws.specs.Parts.{IsPart}
 
 -- the term that a pattern is where these values stand for its variables
 unfoldable pub filled : (ℕ → Term) → Pattern → Term
 filled value = fold_pattern (λ x _. value x) int_term app_term
+
+-- the value of a variable is a valid term of the variable's sort
+abbrev pub HasValue : Shapes → ℕ × SortId → Term → Type 0
+HasValue shapes v u = IsValidOf shapes v.1 u
 
 -- a variable may have this part of the term as its value: the part has the variable's sort
 abbrev pub MayHave : Shapes → Term → ℕ × SortId → Term → Type 0

@@ -34,3 +34,7 @@ IsAllowed shapes op ts = MayTake shapes (slice_get shapes.shapes op.0) ts
 -- each integer and each application in the term is allowed
 abbrev pub IsValid : Shapes → Term → Type 0
 IsValid shapes = Throughout (IsNumber shapes) (IsAllowed shapes)
+
+-- the term is valid, and has this sort
+abbrev pub IsValidOf : Shapes → SortId → Term → Type 0
+IsValidOf shapes s t = IsValid shapes t × HasSort shapes t s

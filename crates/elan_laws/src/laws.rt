@@ -1,24 +1,26 @@
 //! What holds of every term, and of the injections of a signature. Each law is the contract of a call that does nothing.
 
-ghost use Rattle.std.specs.Prelude.{◌≡◌, ◌≤◌, ◌↔◌, ℤ, List, length, true};
-ghost use Rattle.std.specs.List.{Contains};
+ghost use Rattle.std.specs.Prelude.{◌≡◌, ◌≤◌, ◌↔◌, ℕ, ℤ, List, length, true, Some, IsTrue};
+ghost use Rattle.std.specs.List.{Contains, AllZip};
 ghost use Rattle.std.specs.Ordering.{nat_cmp, int_cmp, ordering_then, ordering_reverse};
 ghost use Rattle.std.specs.declared.cmp.Ordering.TheVariants.{Less, Equal};
 ghost use Rattle.std.specs.Cmp.Lexicographic.{slice_cmp};
 ghost use Rattle.elan_terms.specs.declared.tree.OpId.{OpId as OpValue};
+ghost use Rattle.elan_terms.specs.declared.tree.SortId.{SortId as SortValue};
 ghost use Rattle.elan_terms.specs.declared.tree.Term.{Term as TermValue};
 ghost use Rattle.elan_terms.specs.declared.tree.Pattern.{Pattern as PatternValue};
 ghost use Rattle.elan_terms.specs.declared.tree.Shapes.{Shapes as ShapesValue};
 ghost use Rattle.elan_terms.specs.Trees.{int_term, app_term};
 ghost use Rattle.elan_terms.specs.Term.{order, sort_of, canon};
-ghost use Rattle.elan_terms.specs.Match.{parts, matches};
+ghost use Rattle.elan_terms.specs.Match.{parts, variables, bound, instance, matches};
 ghost use Rattle.elan_program.specs.declared.signature.Signature.{Signature as SignatureValue};
+ghost use Rattle.elan_program.specs.Patterns.{pattern_sort, uses, are_numbered};
 ghost use Rattle.elan_program.specs.Soundness.{injections, has_no_cycle};
 ghost use Rattle.elan_laws.specs.Canonical.{IsCanonical};
-ghost use Rattle.elan_laws.specs.Valid.{IsValid};
+ghost use Rattle.elan_laws.specs.Valid.{IsValid, IsValidOf};
 ghost use Rattle.elan_laws.specs.Ascending.{Ascends, AscendsStrictly};
 ghost use Rattle.elan_laws.specs.Parts.{IsPart, SomeOf, times};
-ghost use Rattle.elan_laws.specs.Matching.{IsMatch, AscendLexicographically};
+ghost use Rattle.elan_laws.specs.Matching.{filled, HasValue, IsMatch, AscendLexicographically};
 ghost use Rattle.elan_laws.specs.Equality.{EqualModulo};
 ghost use Rattle.elan_laws.specs.Injections.{BeginAmong, HasNoCycle};
 
@@ -75,6 +77,26 @@ pub fn matches_once()
     ensures order { (shapes : ShapesValue) (p : PatternValue) (t : TermValue) → AscendLexicographically (matches shapes p t) }
     ensures matches { (shapes : ShapesValue) (p : PatternValue) (t : TermValue) (values : List TermValue) →
         IsValid shapes t → IsCanonical shapes t → Contains (matches shapes p t) values ↔ IsMatch shapes p t values }
+{}
+
+/// A pattern that is built node by node from canonical values, each node in canonical form, is the
+/// canonical form of the pattern filled with these values.
+pub fn instances_are_canonical()
+    ensures { (shapes : ShapesValue) (value : ℕ → TermValue) (p : PatternValue) →
+        ((x : ℕ) → IsCanonical shapes (value x)) → instance shapes value p ≡ canon shapes (filled value p) }
+{}
+
+/// Sorts are kept: parts of a valid term are valid; so each variable of a match has a valid value of
+/// its sort; a well-sorted pattern filled with such values is a valid term of the pattern's sort; and
+/// so is its canonical form.
+pub fn sorts_are_kept()
+    ensures parts { (shapes : ShapesValue) (t p : TermValue) → IsValid shapes t → IsPart shapes p t → IsValid shapes p }
+    ensures matches { (shapes : ShapesValue) (p : PatternValue) (t : TermValue) (values : List TermValue) →
+        IsValid shapes t → IsMatch shapes p t values → AllZip (HasValue shapes) (variables p) values }
+    ensures filled { (shapes : ShapesValue) (sorts : ℕ) (known : List (ℕ × SortValue)) (p : PatternValue) (s : SortValue)
+        (values : List TermValue) → IsTrue (are_numbered sorts 0 known) → AllZip (HasValue shapes) known values →
+        IsTrue (uses known p) → pattern_sort shapes p ≡ Some s → IsValidOf shapes s (filled (bound known values) p) }
+    ensures canonical { (shapes : ShapesValue) (s : SortValue) (t : TermValue) → IsValidOf shapes s t → IsValidOf shapes s (canon shapes t) }
 {}
 
 /// In a signature whose injections begin at its sorts, none of them leads a sort back to itself exactly where no chain of

@@ -1,5 +1,6 @@
 use crate::laws::{
-    canonical_form, equality_modulo_ac, matches_once, order_by_heads, order_is_total, parts_ascend,
+    canonical_form, equality_modulo_ac, injections_end, instances_are_canonical, matches_once,
+    order_by_heads, order_is_total, parts_ascend, sorts_are_kept,
 };
 use crate::{equal_modulo, is_ascending, is_canonical, is_valid};
 use elan_terms::{NoMemory, OpId, Shape, Shapes, SortId, Term, TermNode};
@@ -77,6 +78,9 @@ fn a_law_does_nothing() {
     equality_modulo_ac();
     parts_ascend();
     matches_once();
+    instances_are_canonical();
+    sorts_are_kept();
+    injections_end();
 }
 
 #[test]

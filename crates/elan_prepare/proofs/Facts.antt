@@ -1,8 +1,8 @@
 -- What follows where values that may be missing are there.
-use Rattle.std.proofs.Common.{◌≡◌, refl, sym, ap, subst, ◌∙◌, ℕ, Bool, true, false, ◌&&◌, ◌||◌, List, [], ◌∷◌, ◌++◌, map, length, get_or, Option, Some, None, zero, suc, ◌<◌, arith}
+use Rattle.std.proofs.Common.{◌≡◌, refl, ap, subst, ◌∙◌, ℕ, Bool, true, false, ◌&&◌, ◌||◌, List, [], ◌∷◌, ◌++◌, map, length, get_or, Option, Some, None, zero, suc, ◌<◌, arith}
 use Rattle.std.specs.Option.{option_and_then, option_map}
 use Rattle.std.specs.List.{list_all}
-use Rattle.elan_prepare.specs.Words.{all_there, in_front, with_front, both, without, provided}
+use Rattle.elan_prepare.specs.Words.{all_there, in_front, both, without, provided}
 
 -- ---- tests
 

@@ -1,5 +1,5 @@
 -- The programs of the first form are valid.
-use Rattle.std.proofs.Common.{◌≡◌, refl, sym, ap, subst, ◌∙◌, ℕ, zero, suc, ◌≤◌, ◌<◌, ◌^◌, Bool, true, false, not, ◌&&◌, ◌||◌, ◌==◌, if◌then◌else◌, nat_lt, nat_le, List, [], ◌∷◌, ◌++◌, map, length, get_or, Option, Some, None, arith}
+use Rattle.std.proofs.Common.{◌≡◌, refl, sym, ap, subst, ◌∙◌, ℕ, ◌≤◌, true, false, ◌&&◌, ◌==◌, if◌then◌else◌, nat_lt, nat_le, List, [], ◌∷◌, length, get_or, Some, None, arith}
 use Rattle.std.specs.Prelude.{slice_get}
 use Rattle.std.specs.Option.{option_and_then, option_map}
 use Rattle.std.specs.List.{list_all, position}
@@ -7,7 +7,6 @@ use Rattle.std.proofs.lemmas.Bool.{lt-ltb, eqb-true}
 use Rattle.std.proofs.lemmas.List.Quantifiers.{position-Some}
 use Rattle.std.proofs.lemmas.Option.{slice_get-map, slice_get-get_or}
 use Rattle.elan_text.specs.declared.name.Name.{Name}
-use Rattle.elan_terms.specs.declared.tree.OpId.{OpId}
 use Rattle.elan_terms.specs.declared.tree.SortId.{SortId}
 use Rattle.elan_terms.specs.declared.tree.Pattern.{Pattern}
 use Rattle.elan_terms.specs.Match.{is_sort, variables, occurrences, new_in}
@@ -18,19 +17,17 @@ use Rattle.elan_program.specs.declared.signature.Operator.{Operator}
 use Rattle.elan_program.specs.declared.signature.Signature.{Signature}
 use Rattle.elan_program.specs.declared.program.Rule.{Rule}
 use Rattle.elan_program.specs.declared.program.Parts.{Parts}
-use Rattle.elan_program.specs.Extension.{app_pattern}
 use Rattle.elan_program.specs.Signature.{shapes_of, shape_of}
-use Rattle.elan_program.specs.Soundness.{most, holes, has_sort_id}
+use Rattle.elan_program.specs.Soundness.{most, holes}
 use Rattle.elan_program.specs.Patterns.{pattern_sort, sort_over, args_fit, are_of_sorts, are_all_of, uses, is_bound, binds, are_numbered}
 use Rattle.elan_program.specs.Validity.{IsValid, is_valid, is_valid_rule, is_bound_right, bound_by}
 use Rattle.elan_program.proofs.PatternLemmas.{pattern_sort-app}
-use Rattle.elan_syntax.specs.declared.parts.Span.{Span}
+use Rattle.elan_phrases.specs.declared.span.Span.{Span}
 use Rattle.elan_syntax.specs.declared.parts.RuleOutline.{RuleOutline}
-use Rattle.elan_syntax.specs.declared.parts.Vars.{Vars}
 use Rattle.elan_syntax.specs.declared.parts.Section.{Section}
 use Rattle.elan_syntax.specs.declared.parts.Section.TheVariants as section
-use Rattle.elan_prepare.specs.Words.{Word, word_at, only_word, without, all_there, both, provided}
-use Rattle.elan_prepare.specs.Declarations.{sort_id, sort_at, is_word, is_spelled, is_constant, constant_pattern, constant_called, constant_at, plain_operator, plain_rule, rule_from, labelled_rule, rule_of, rules_at, section_rules, rules_in, rules_of, operators_of}
+use Rattle.elan_prepare.specs.Words.{Word, word_at, only_word}
+use Rattle.elan_prepare.specs.Declarations.{sort_id, sort_at, is_spelled, is_constant, constant_pattern, constant_called, constant_at, plain_operator, plain_rule, rule_from, labelled_rule, rule_of, rules_at, rules_in, rules_of, operators_of}
 use Rattle.elan_prepare.specs.Programs.{plain_signature, plain_program, sorts_within, signature_with, signature_over, signature_of}
 use Rattle.elan_prepare.proofs.Facts.{left_true, right_true, both_true, mapped, chained, provided_is, without_is, both_is, Each, each_at, all_are, both_are, all_pass}
 use Rattle.elan_prepare.proofs.ValidSignatures.{sort_found, IsPlainOperator, operators_are, signature_sound}

@@ -1,5 +1,5 @@
 -- The signatures of the first form are sound.
-use Rattle.std.proofs.Common.{◌≡◌, refl, sym, ap, subst, ◌∙◌, ℕ, zero, suc, ◌≤◌, ◌<◌, ◌^◌, Bool, true, false, not, ◌&&◌, ◌||◌, ◌==◌, if◌then◌else◌, nat_lt, List, [], ◌∷◌, ◌++◌, map, length, Option, Some, None, codes, arith}
+use Rattle.std.proofs.Common.{◌≡◌, refl, sym, ap, subst, ◌∙◌, ℕ, zero, suc, ◌≤◌, Bool, true, false, not, ◌&&◌, ◌||◌, ◌==◌, if◌then◌else◌, nat_lt, List, [], ◌∷◌, ◌++◌, map, length, Some, None, codes, arith}
 use Rattle.std.specs.Option.{option_and_then, option_map}
 use Rattle.std.specs.List.{list_all, list_any, position, flat_map}
 use Rattle.std.specs.Str.{bytes_eq}
@@ -13,15 +13,15 @@ use Rattle.elan_program.specs.declared.signature.Piece.TheVariants as piece
 use Rattle.elan_program.specs.declared.signature.Operator.{Operator}
 use Rattle.elan_program.specs.declared.signature.Signature.{Signature}
 use Rattle.elan_program.specs.Spelling.{is_name, is_spelled, long_signs, is_short_sign}
-use Rattle.elan_program.specs.Soundness.{most, is_spelling_of, is_sound_operator, is_sound, has_sort_id, holes, are_spelled, is_some_list, leads, two_args, same_sort, builtin_fits, injections, chains, led_on, has_no_cycle}
-use Rattle.elan_syntax.specs.declared.parts.Span.{Span}
+use Rattle.elan_program.specs.Soundness.{most, is_spelling_of, is_sound_operator, is_sound, holes, are_spelled, is_some_list, leads, two_args, same_sort, builtin_fits, injections, chains, led_on, has_no_cycle}
+use Rattle.elan_phrases.specs.declared.span.Span.{Span}
 use Rattle.elan_syntax.specs.declared.parts.OpDecl.{OpDecl}
 use Rattle.elan_syntax.specs.declared.parts.Section.{Section}
 use Rattle.elan_syntax.specs.declared.parts.Section.TheVariants as section
-use Rattle.elan_prepare.specs.Words.{Word, word_at, words_in, only_word, is_named, all_there, without, both, name_of}
-use Rattle.elan_prepare.specs.Declarations.{sort_id, sort_called, sort_at, is_word, is_closed, are_holes, are_some_holes, is_plain_spelling, plain_operator, pieces_of, fitting, operator_over, operator_of, operators_in, operators_of}
+use Rattle.elan_prepare.specs.Words.{Word, words_in, only_word, is_named, all_there, provided, name_of}
+use Rattle.elan_prepare.specs.Declarations.{sort_id, sort_called, sort_at, are_holes, are_some_holes, is_plain_spelling, plain_operator, pieces_of, fitting, operator_over, are_filled, operator_of, operators_in, operators_of}
 use Rattle.elan_prepare.specs.Programs.{plain_signature}
-use Rattle.elan_prepare.proofs.Facts.{left_true, right_true, both_true, or_right, or_false, mapped, chained, without_is, both_is, Each, all_are, both_are, all_pass}
+use Rattle.elan_prepare.proofs.Facts.{left_true, right_true, both_true, or_right, or_false, mapped, chained, provided_is, without_is, both_is, Each, all_are, both_are, all_pass}
 
 -- ---- sorts
 
@@ -124,8 +124,9 @@ plain_operator_is sorts pieces args sort made of_args of_sort e =
 pub operator_is : (words : List Word) (sorts : List Name) (d : OpDecl) (made : Operator) → operator_of words sorts d ≡ Some made → IsPlainOperator sorts made
 unfolding operator_of
 operator_is words sorts d made e =
-    let bare = without_is (words_in words d.attributes) (option_and_then (operator_over words sorts d) (all_there (map (sort_at words sorts) d.args))) made e in
-    let h = chained (operator_over words sorts d) (all_there (map (sort_at words sorts) d.args)) made bare.1 in
+    let bare = without_is (words_in words d.attributes) (provided (are_filled d.args d) (option_and_then (operator_over words sorts d) (all_there (map (sort_at words sorts) d.args)))) made e in
+    let filled = provided_is (are_filled d.args d) (option_and_then (operator_over words sorts d) (all_there (map (sort_at words sorts) d.args))) made bare.1 in
+    let h = chained (operator_over words sorts d) (all_there (map (sort_at words sorts) d.args)) made filled.1 in
     let of_args : list_all (λ (s : SortId). nat_lt s.0 (length sorts)) h.0 ≡ true =
     all_pass (λ (s : SortId). nat_lt s.0 (length sorts) ≡ true) (λ (s : SortId). nat_lt s.0 (length sorts)) (λ s p. p) h.0
     (all_are (sort_at words sorts) (λ (s : SortId). nat_lt s.0 (length sorts) ≡ true) (sort_found words sorts) d.args h.0 h.1) in

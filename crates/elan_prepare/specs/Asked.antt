@@ -7,7 +7,7 @@ use Rattle.elan_terms.specs.declared.tree.SortId.{SortId}
 use Rattle.elan_program.specs.declared.program.Rule.{Rule}
 use Rattle.elan_program.specs.declared.strategy.Strategy.{Strategy}
 use Rattle.elan_program.specs.declared.strategy.StrategyNode.TheVariants as made
-use Rattle.elan_syntax.specs.declared.parts.Span.{Span}
+use Rattle.elan_phrases.specs.declared.span.Span.{Span}
 use Rattle.elan_prepare.specs.Words.{Word, words_in, is_named, in_front}
 
 -- a label that is there, and is this word

@@ -1,5 +1,5 @@
 -- What the sections of a module declare: sorts, operators and rules.
-use Rattle.std.specs.Prelude.{ℕ, ◌==◌, Bool, true, false, ◌&&◌, ◌||◌, if◌then◌else◌, Option, Some, None, List, [], ◌∷◌, map, length, codes}
+use Rattle.std.specs.Prelude.{ℕ, ◌-◌, ◌==◌, Bool, true, false, ◌&&◌, ◌||◌, if◌then◌else◌, Option, Some, None, List, [], ◌∷◌, map, length, codes}
 use Rattle.std.specs.List.{flat_map, list_all, position}
 use Rattle.std.specs.Option.{option_and_then, option_map}
 use Rattle.std.specs.Str.{bytes_eq}
@@ -14,13 +14,13 @@ use Rattle.elan_program.specs.declared.program.Rule.{Rule}
 use Rattle.elan_program.specs.Extension.{app_pattern}
 use Rattle.elan_program.specs.Spelling.{is_name}
 use Rattle.elan_program.specs.Soundness.{holes}
-use Rattle.elan_syntax.specs.declared.parts.Span.{Span}
+use Rattle.elan_phrases.specs.declared.span.Span.{Span}
 use Rattle.elan_syntax.specs.declared.parts.Section.{Section}
 use Rattle.elan_syntax.specs.declared.parts.Section.TheVariants as section
 use Rattle.elan_syntax.specs.declared.parts.OpDecl.{OpDecl}
 use Rattle.elan_syntax.specs.declared.parts.Vars.{Vars}
 use Rattle.elan_syntax.specs.declared.parts.RuleOutline.{RuleOutline}
-use Rattle.elan_prepare.specs.Words.{Word, word_at, words_in, only_word, has_one, name_of, is_named, distinct, all_there, without, both}
+use Rattle.elan_prepare.specs.Words.{Word, word_at, words_in, only_word, has_one, name_of, is_named, distinct, all_there, without, provided, both}
 
 -- ---- sorts
 
@@ -113,12 +113,18 @@ operator_over words sorts d args =
     option_and_then (λ sort. fitting (plain_operator (pieces_of words d) args sort))
     (sort_at words sorts d.sort)
 
+-- without sorts of arguments the sort stands directly behind the `:`, so no brackets stand there that hold no sort
+abbrev pub are_filled : List Span → OpDecl → Bool
+are_filled [] d = d.sort.first - 1 == d.spelling.past
+are_filled (s ∷ ss) d = true
+
 -- the operator of a declaration without attributes, where all of its sorts are declared, its spelling is plain, and it
 -- has as many places for arguments as sorts of arguments
 unfoldable pub operator_of : List Word → List Name → OpDecl → Option Operator
 operator_of words sorts d =
     without (words_in words d.attributes)
-    (option_and_then (operator_over words sorts d) (all_there (map (sort_at words sorts) d.args)))
+    (provided (are_filled d.args d)
+    (option_and_then (operator_over words sorts d) (all_there (map (sort_at words sorts) d.args))))
 
 -- the operators of a section
 abbrev pub operators_in : List Word → List Name → Section → Option (List Operator)

@@ -7,7 +7,7 @@ use Rattle.elan_terms.specs.declared.tree.SortId.{SortId}
 use Rattle.elan_terms.specs.declared.tree.Pattern.{Pattern}
 use Rattle.elan_program.specs.declared.program.Program.{Program}
 use Rattle.elan_program.specs.declared.strategy.Strategy.{Strategy}
-use Rattle.elan_syntax.specs.declared.parts.Span.{Span}
+use Rattle.elan_phrases.specs.declared.span.Span.{Span}
 use Rattle.elan_syntax.specs.declared.parts.Outline.{Outline}
 use Rattle.elan_syntax.specs.declared.parts.ModuleOutline.{ModuleOutline}
 use Rattle.elan_syntax.specs.declared.parts.LplOutline.{LplOutline}

@@ -6,7 +6,7 @@ use Rattle.std.specs.Str.{bytes_eq}
 use Rattle.elan_text.specs.declared.name.Name.{Name}
 use Rattle.elan_lexer.specs.declared.token.Token.{Token}
 use Rattle.elan_lexer.specs.Text.{token_text}
-use Rattle.elan_syntax.specs.declared.parts.Span.{Span}
+use Rattle.elan_phrases.specs.declared.span.Span.{Span}
 
 -- a word or a sign: its bytes
 abbrev pub Word : Type 0

@@ -220,6 +220,16 @@ fn fitting(operator: Operator) -> Option<Operator>
     }
 }
 
+/// Whether no brackets stand round the sorts of the arguments, or some sorts do.
+fn are_filled(declared: &OpDecl) -> bool
+    ensures { result ≡ spec.are_filled declared.now.args declared.now }
+{
+    match declared.args.as_slice() {
+        [] => declared.sort.first.saturating_sub(1) == declared.spelling.past,
+        [_, ..] => true,
+    }
+}
+
 /// The operator of a declaration without attributes, where all of its sorts are declared, its spelling is plain, and it
 /// has as many places for arguments as sorts of arguments.
 #[tactic(auto, unfolding(crate::specs::Declarations::operator_of))]
@@ -232,7 +242,7 @@ fn operator_of(
     requires { length sorts.now ≤ 4096 }
     ensures { IfOk result (λ r. r ≡ spec.operator_of words.now sorts.now declared.now) }
 {
-    if !words.part(declared.attributes).is_empty() {
+    if !words.part(declared.attributes).is_empty() || !are_filled(declared) {
         return Ok(None);
     }
     let Some(args) = sorts_at(alloc, words, sorts, declared.args.as_slice())? else {

@@ -38,7 +38,8 @@ pub struct Prepared {
 /// - Each sort is one word, and each one that is named is declared. The query sort is the result
 ///   sort.
 /// - Each operator is spelled by a name, which may have places for arguments in brackets behind it. It
-///   has as many places as sorts of arguments, and no attributes. Their names differ.
+///   has as many places as sorts of arguments, no brackets without a sort in them, and no attributes.
+///   Their names differ.
 /// - Each rule has a label and no conditions.
 /// - The start strategy is empty, which is `id`, or it is `id`, `fail`, a label or one `dk` of
 ///   labels, each of them the label of a rule for the query sort.

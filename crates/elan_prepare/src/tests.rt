@@ -5,7 +5,9 @@ ghost use Rattle.std.specs.Prelude.{◌≤◌};
 use crate::{Prepared, prepare};
 use elan_lexer::tokens;
 use elan_program::{Strategy, StrategyNode};
-use elan_syntax::{LplOutline, ModuleOutline, OpDecl, Outline, RuleOutline, Section, Span};
+use elan_syntax::{
+    LplOutline, ModuleOutline, OpDecl, Outline, RuleOutline, Section, Span, outline,
+};
 use elan_terms::{OpId, Pattern, PatternNode, SortId};
 use elan_text::NoMemory;
 use sqlite_items::Items;
@@ -212,5 +214,66 @@ fn a_text_of_another_form_asks_nothing(rt: HostRuntime) -> Result<(), Fail> {
         let asked = asked(rt.alloc(), at, other)?;
         assert!(rt; asked.is_none(), "at {at}");
     }
+    Ok(())
+}
+
+// What the text asks by its own outline, where in place of the token of this number there are other words.
+fn asked_whole(alloc: Global, at: usize, other: &str) -> Result<Option<Prepared>, Fail> {
+    let text = changed(alloc, at, other)?;
+    let bytes = text.as_bytes();
+    if bytes.len() > 4_194_304 {
+        return Err(Fail::new("the text is short"));
+    }
+    let found = tokens(alloc, bytes).ok().ok_or("the text has tokens")?;
+    let outline = outline(alloc, bytes, found.as_slice())
+        .ok()
+        .ok_or("the text has an outline")?;
+    Ok(prepare(alloc, bytes, found.as_slice(), &outline)?)
+}
+
+#[test]
+fn a_form_that_the_first_one_lacks_asks_nothing(rt: HostRuntime) -> Result<(), Fail> {
+    let cases = [
+        // Other modules, parameters, and sections of imports and of strategies.
+        (0, "module other end module"),
+        (1, "choice [ X ]"),
+        (2, "import other ; end sort"),
+        (53, "strategies for s end end"),
+        // Sorts with arguments, where they are declared and where they are named.
+        (3, "s s [ s ]"),
+        (10, "s [ s ]"),
+        (28, "s [ s ]"),
+        (36, "s [ s ]"),
+        (60, "s [ s ]"),
+        // Attributes, brackets without a sort, and other spellings.
+        (10, "s pri 3"),
+        (18, "s assocLeft"),
+        (31, "s ( AC )"),
+        (10, "( ) s"),
+        (8, "a b"),
+        (8, "@ : ( s ) s ; a"),
+        (8, "+ : s ; a"),
+        // Variables, and clauses of a rule.
+        (37, "x : s ; global"),
+        (43, "b if b"),
+        (43, "b where a := ( ) a"),
+        (39, ""),
+        // References, and start strategies.
+        (66, "choice choice"),
+        (66, "choice [ s ]"),
+        (70, "first"),
+        (70, "dc one"),
+        (72, "dk ( ab )"),
+        (72, "ab ; ab"),
+        (72, "id"),
+        (75, ") ; id"),
+        (79, "g ( a , a )"),
+        (79, "1"),
+    ];
+    for (at, other) in cases {
+        let asked = asked_whole(rt.alloc(), at, other)?;
+        assert!(rt; asked.is_none(), "{other} at {at}");
+    }
+    assert!(rt; asked_whole(rt.alloc(), 37, "local global")?.is_some());
     Ok(())
 }

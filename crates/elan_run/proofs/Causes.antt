@@ -1,13 +1,12 @@
 -- What a run leaves tells the cause of its answer.
-use Rattle.std.proofs.Common.{◌≡◌, ◌<◌, ◌⊎◌, inl, inr, ℕ, List, [], ◌∷◌, ◌++◌, length, append-nil, Option, Some, None, refl, sym, ◌∙◌, ap, subst, arith}
-use Rattle.std.specs.Option.{option_map}
+use Rattle.std.proofs.Common.{◌≡◌, ◌<◌, ◌⊎◌, inl, inr, ℕ, List, [], ◌++◌, append-nil, Option, Some, None, refl, sym, ◌∙◌, ap, subst, arith}
 use Rattle.elan_text.specs.declared.refusal.Code.{Code}
 use Rattle.elan_text.specs.Streams.{Appends, IsAtEnd}
 use Rattle.elan_text.specs.Whole.{AppendsPart}
 use Rattle.elan_prepare.specs.declared.prepared.Prepared.{Prepared}
 use Rattle.elan_run.specs.declared.status.Status.{Status}
 use Rattle.elan_run.specs.declared.status.Status.TheVariants as status
-use Rattle.elan_run.specs.Verdict.{Verdict, Misused, TooLong, BadToken, Accepted, NotBuilt, IsVerdict, IsReport, Says, text_for, status_for}
+use Rattle.elan_run.specs.Verdict.{Verdict, Misused, TooLong, BadToken, BadOutline, Accepted, NotBuilt, IsVerdict, IsReport, text_for, status_for}
 use Rattle.elan_run.specs.Runs.{Told, Answers, BreaksOff, Completes, Headline, Leaves}
 use Rattle.elan_run.proofs.Verdicts.{one_report}
 
@@ -139,6 +138,7 @@ module _ (words : ℕ) (left past before after : Option (List ℕ)) (ReadFailed 
       used Misused a e = cc
       used TooLong a e = cc
       used (BadToken code at) a e = cc
+      used (BadOutline code at) a e = cc
       used (Accepted p) a e = omega (arith, a.0, some)
       used NotBuilt a e = cc
   words_leave (status.Refused code) l some = absurd (used l.report.verdict l.report.applies l.report.says.answer_is)
@@ -147,5 +147,6 @@ module _ (words : ℕ) (left past before after : Option (List ℕ)) (ReadFailed 
       used Misused a e = cc
       used TooLong a e = omega (arith, a.0, some)
       used (BadToken code at) a e = omega (arith, a.0, some)
+      used (BadOutline code at) a e = omega (arith, a.0, some)
       used (Accepted p) a e = omega (arith, a.0, some)
       used NotBuilt a e = omega (arith, a.0, some)

@@ -1,12 +1,12 @@
 -- What a run leaves follows from what it read and what it sent.
-use Rattle.std.proofs.Common.{◌≡◌, ◌<◌, ◌≤◌, ◌+◌, ◌⊎◌, inl, inr, ℕ, List, [], ◌∷◌, ◌++◌, length, length-append, append-nil, Option, Some, None, Result, Ok, Err, IfOk, refl, sym, ◌∙◌, ap, subst, arith}
-use Rattle.elan_text.specs.Streams.{Consumes, Appends, IsAtEnd}
-use Rattle.elan_text.specs.Whole.{Drained, PastMost, AppendsPart}
+use Rattle.std.proofs.Common.{◌≡◌, ◌<◌, inl, inr, ℕ, List, [], ◌++◌, length, length-append, append-nil, Option, Some, None, Result, Ok, Err, IfOk, refl, sym, ◌∙◌, ap, subst, arith}
+use Rattle.elan_text.specs.Streams.{IsAtEnd}
+use Rattle.elan_text.specs.Whole.{Drained, PastMost}
 use Rattle.elan_run.specs.declared.answer.Answer.{Answer}
 use Rattle.elan_run.specs.declared.status.Status.{Status}
 use Rattle.elan_run.specs.declared.status.Status.TheVariants as status
 use Rattle.elan_run.specs.Lines.{usage_line}
-use Rattle.elan_run.specs.Verdict.{most_bytes, Verdict, Misused, TooLong, BadToken, Accepted, NotBuilt, IsVerdict, IsReport, Says, status_for}
+use Rattle.elan_run.specs.Verdict.{most_bytes, Verdict, Misused, TooLong, BadToken, BadOutline, Accepted, NotBuilt, IsReport, Says, status_for}
 use Rattle.elan_run.specs.Runs.{Told, Answers, BreaksOff, Sends, Finishes, Leaves}
 
 -- what was read to the end is what the source had left
@@ -39,6 +39,7 @@ module _ (words : ℕ) (left past before after : Option (List ℕ)) (ReadFailed 
   leaves_answer Misused a end = a
   leaves_answer TooLong a end = a
   leaves_answer (BadToken code at) a end = a
+  leaves_answer (BadOutline code at) a end = a
   leaves_answer (Accepted p) a end = (a, end refl)
   leaves_answer NotBuilt a end = a
 

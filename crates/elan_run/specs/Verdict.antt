@@ -1,13 +1,15 @@
 -- What is written and answered for which input: the first case that applies decides.
-use Rattle.std.specs.Prelude.{◌≡◌, ◌<◌, ◌≤◌, ℕ, List, [], length, Option, Some}
+use Rattle.std.specs.Prelude.{◌≡◌, ◌<◌, ◌≤◌, ℕ, List, length, Some, None}
 use Rattle.elan_text.specs.declared.refusal.Code.{Code}
 use Rattle.elan_text.specs.declared.refusal.Code.TheVariants.{E01, E99}
 use Rattle.elan_text.specs.declared.refusal.Place.{Place}
+use Rattle.elan_text.specs.declared.refusal.Stop.{Stop}
+use Rattle.elan_text.specs.declared.refusal.Stop.TheVariants.{Refused, NoMemory}
 use Rattle.elan_lexer.specs.declared.token.Token.{Token}
 use Rattle.elan_lexer.specs.Text.{Fits, Refuses}
 use Rattle.elan_syntax.specs.declared.parts.Outline.{Outline}
-use Rattle.elan_syntax.specs.Symbols.{seen}
-use Rattle.elan_syntax.specs.Outlines.{IsOutline}
+use Rattle.elan_phrases.specs.Symbols.{seen}
+use Rattle.elan_syntax.specs.Outlines.{IsOutline, Refuses as RefusesOutline}
 use Rattle.elan_prepare.specs.declared.prepared.Prepared.{Prepared}
 use Rattle.elan_prepare.specs.Words.{words_of}
 use Rattle.elan_prepare.specs.Prepared.{prepared}
@@ -35,9 +37,20 @@ Asks bytes p =
     (tokens : List Token) × (outline : Outline) × Fits bytes tokens × IsOutline (seen bytes tokens) outline
     × (prepared (words_of bytes tokens) outline ≡ Some p)
 
--- the bytes ask nothing
+-- the bytes have an outline, and are no stream of the first form in which each text has a reading
 abbrev pub AsksNothing : List ℕ → Type 0
-AsksNothing bytes = (p : Prepared) → Asks bytes p → ⊥
+AsksNothing bytes =
+    (tokens : List Token) × (outline : Outline) × Fits bytes tokens × IsOutline (seen bytes tokens) outline
+    × (prepared (words_of bytes tokens) outline ≡ None)
+
+-- the bytes have tokens and no outline, and are refused with this code at this place
+abbrev pub LacksOutline : List ℕ → Code → Place → Type 0
+LacksOutline bytes code at = (tokens : List Token) × Fits bytes tokens × RefusesOutline bytes tokens code at
+
+-- it is the bytes' lack of an outline that is answered, unless memory was wanted
+abbrev pub IsLack : List ℕ → Stop → Type 0
+IsLack bytes (Refused refusal) = LacksOutline bytes refusal.code refusal.at
+IsLack bytes NoMemory = Unit {0}
 
 -- the list that sequential backtracking defines
 abbrev pub items_of : Prepared → List Item
@@ -48,19 +61,21 @@ pub data Verdict : Type 0 where
   Misused : Verdict
   TooLong : Verdict
   BadToken : Code → Place → Verdict
+  BadOutline : Code → Place → Verdict
   Accepted : Prepared → Verdict
   NotBuilt : Verdict
 
 -- Words are refused, where there are any: so many of them is all that counts. Of an input without words: it is too
--- long; or it has no tokens, and is refused at the least place that is at fault; or it asks something; or its form is
--- not built.
+-- long; or it has no tokens, and is refused at the least place that is at fault; or its tokens have no outline, and it is
+-- refused at the token that decides; or it asks something; or its form is not built.
 abbrev pub IsVerdict : ℕ → List ℕ → Verdict → Type 0
 IsVerdict words bytes Misused = 0 < words
 IsVerdict words bytes TooLong = (words ≡ 0) × (most_bytes < length bytes)
 IsVerdict words bytes (BadToken code at) = (words ≡ 0) × (length bytes ≤ most_bytes) × Refuses bytes code at
+IsVerdict words bytes (BadOutline code at) =
+    (words ≡ 0) × (length bytes ≤ most_bytes) × LacksOutline bytes code at
 IsVerdict words bytes (Accepted p) = (words ≡ 0) × (length bytes ≤ most_bytes) × Asks bytes p
-IsVerdict words bytes NotBuilt =
-    (words ≡ 0) × (length bytes ≤ most_bytes) × ((tokens : List Token) × Fits bytes tokens) × AsksNothing bytes
+IsVerdict words bytes NotBuilt = (words ≡ 0) × (length bytes ≤ most_bytes) × AsksNothing bytes
 
 -- a refusal of the whole stream stands at its first byte
 abbrev pub first_place : Place
@@ -71,6 +86,7 @@ abbrev pub text_for : Verdict → List ℕ
 text_for Misused = usage_line
 text_for TooLong = refusal_line E01 first_place
 text_for (BadToken code at) = refusal_line code at
+text_for (BadOutline code at) = refusal_line code at
 text_for (Accepted p) = report p.program.signature default_limit (items_of p)
 text_for NotBuilt = refusal_line E99 first_place
 
@@ -79,6 +95,7 @@ abbrev pub status_for : Verdict → Status
 status_for Misused = status.Usage
 status_for TooLong = status.Refused E01
 status_for (BadToken code at) = status.Refused code
+status_for (BadOutline code at) = status.Refused code
 status_for (Accepted p) = status.Done
 status_for NotBuilt = status.Refused E99
 

@@ -86,8 +86,8 @@ fn forms_that_are_not_built_are_refused(rt: HostRuntime) -> Result<(), Fail> {
 #[test]
 fn each_refusal_has_its_line(rt: HostRuntime) -> Result<(), Fail> {
     let alloc = rt.alloc();
-    let rows: [(&[u8], &[u8], Code); 5] = [
-        (b"", b"error E99 1:1 form not built yet\n", Code::E99),
+    let rows: [(&[u8], &[u8], Code); 7] = [
+        (b"", b"error E05 1:1 unexpected token\n", Code::E05),
         (b"\xC3", b"error E02 1:1 bad byte\n", Code::E02),
         (b"/*/", b"error E03 1:1 comment not closed\n", Code::E03),
         (
@@ -95,6 +95,13 @@ fn each_refusal_has_its_line(rt: HostRuntime) -> Result<(), Fail> {
             b"error E04 1:1 number out of range\n",
             Code::E04,
         ),
+        (
+            b"module m\nrules for int\n[] 0 =>",
+            b"error E05 3:8 unexpected token\n",
+            Code::E05,
+        ),
+        // A token that no text has is told before a token that does not fit.
+        (b"end \x07", b"error E02 1:5 bad byte\n", Code::E02),
         (
             b"module nums\nimport global int; end\nend\nLPL q description\nquery of sort int\nresult of sort int\nimport nums\nstart with (id) query\nend\n0 end\n",
             b"error E99 1:1 form not built yet\n",
@@ -106,6 +113,50 @@ fn each_refusal_has_its_line(rt: HostRuntime) -> Result<(), Fail> {
         assert_eq!(rt; written.as_slice(), text);
         assert_eq!(rt; status, Status::Refused(code));
     }
+    Ok(())
+}
+
+/// So many steps `id`, with semicolons between them.
+fn steps(alloc: Global, count: u32) -> Result<Vec<u8>, NoMemory> {
+    let mut start = Vec::new(alloc);
+    for _ in 1..count {
+        start.extend_from_slice(b"id;")?;
+    }
+    start.extend_from_slice(b"id")?;
+    Ok(start)
+}
+
+#[test]
+fn the_257th_token_of_a_strategy_is_too_many(rt: HostRuntime) -> Result<(), Fail> {
+    let alloc = rt.alloc();
+    let rows: [(u32, &[u8], Code); 2] = [
+        (128, b"error E99 1:1 form not built yet\n", Code::E99),
+        (129, b"error E14 19:397 too many\n", Code::E14),
+    ];
+    for (count, text, code) in rows {
+        let start = steps(alloc, count)?;
+        let (status, written) = outcome(alloc, choice(alloc, start.as_slice(), b"a")?.as_slice())?;
+        assert_eq!(rt; written.as_slice(), text);
+        assert_eq!(rt; status, Status::Refused(code));
+    }
+    Ok(())
+}
+
+#[test]
+fn a_front_of_a_program_ends_too_early(rt: HostRuntime) -> Result<(), Fail> {
+    let alloc = rt.alloc();
+    let input = choice(alloc, b"dk(ab,ac)", b"a")?;
+    // All that ends before the `d` of the last `end`, which a line feed follows.
+    for count in 0..input.len().saturating_sub(1) {
+        let (status, _) = outcome_of(alloc, &input.as_slice()[..count])?;
+        assert_eq!(rt;
+            status,
+            Status::Refused(Code::E05),
+            "the first {count} bytes"
+        );
+    }
+    let (status, _) = outcome_of(alloc, &input.as_slice()[..input.len().saturating_sub(1)])?;
+    assert_eq!(rt; status, Status::Done);
     Ok(())
 }
 

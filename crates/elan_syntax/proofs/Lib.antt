@@ -1,7 +1,7 @@
-pub mod SymbolSets
 pub mod ExactGrammar
-pub mod ExactStrategies
 pub mod ExactStreams
+pub mod Whole
 pub mod Turns
-pub mod StrategyMarks
+pub mod SortWords
 pub mod PlainRules
+pub mod PlainStrategies

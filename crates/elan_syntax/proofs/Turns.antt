@@ -1,60 +1,71 @@
--- Loops, by one turn.
-use Rattle.std.proofs.Common.{◌≡◌, ℕ, cond, List, [], ◌∷◌, ◌++◌}
+-- Loops, by one turn, and choices of attributes.
+use Rattle.std.proofs.Common.{◌≡◌, ℕ, cond, List, [], ◌∷◌, ◌++◌, refl, ap, ◌∙◌}
 use Rattle.elan_forms.specs.Whole.{done}
 use Rattle.elan_forms.specs.Form.{◌>>=◌, ◌>>◌, after, pure, begins_with}
 use Rattle.elan_forms.proofs.Takes.{loop_turn}
-use Rattle.elan_syntax.specs.declared.parts.Span.{Span}
+use Rattle.elan_phrases.specs.declared.span.Span.{Span}
+use Rattle.elan_phrases.specs.declared.symbol.Symbol.TheVariants.{Module, Comma}
+use Rattle.elan_phrases.specs.Symbols.{Seen, one, a, names, spelled}
+use Rattle.elan_phrases.specs.Beginnings.{begins_another_name, begins_imported, begins_declared, begins_ruled, begins_clause, begins_defined, begins_section}
+use Rattle.elan_phrases.specs.Tokens.{taken, sign}
 use Rattle.elan_syntax.specs.declared.parts.Section.{Section}
+use Rattle.elan_syntax.specs.declared.parts.ModuleOutline.{ModuleOutline}
 use Rattle.elan_syntax.specs.declared.parts.OpDecl.{OpDecl}
 use Rattle.elan_syntax.specs.declared.parts.Vars.{Vars}
 use Rattle.elan_syntax.specs.declared.parts.RuleOutline.{RuleOutline}
-use Rattle.elan_syntax.specs.declared.symbol.Symbol.TheVariants.{Comma, Hole}
-use Rattle.elan_syntax.specs.Symbols.{Seen, one, a, names, in_text}
-use Rattle.elan_syntax.specs.Grammar.{sign, span_of, text_token, more_text, more_sorts, more_holes, declared, begins_declared, more_declared, another_name, begins_another_name, more_names, vars, more_vars, ruled, begins_ruled, more_ruled, section_rule, begins_section, sections}
-use Rattle.elan_syntax.proofs.ExactGrammar.{text_token_takes, one_sort_takes, one_hole_takes, declared_takes, one_name_takes, one_vars_takes, ruled_takes, one_section_takes}
+use Rattle.elan_syntax.specs.declared.parts.ClauseOutline.{ClauseOutline}
+use Rattle.elan_syntax.specs.declared.parts.Definition.{Definition}
+use Rattle.elan_syntax.specs.declared.attributes.Attribute.{Attribute}
+use Rattle.elan_syntax.specs.declared.attributes.Attribute.TheVariants.{Priority, Associativity, AcMark}
+use Rattle.elan_syntax.specs.declared.parameters.Parameters.{Parameters}
+use Rattle.elan_syntax.specs.Grammar.{one_import, more_imports, priority, associativity, ac_mark, attribute, begins_attribute, one_of, two_of, more_spelled, declared, more_declared, another_name, more_names, vars, more_vars, clause_rule, more_clauses, ruled, more_ruled, defined, more_defined, parameter, more_parameters, section_rule, sections, module_of, more_modules}
+use Rattle.elan_syntax.proofs.ExactGrammar.{one_import_takes, one_spelled_takes, declared_takes, one_name_takes, one_vars_takes, one_clause_takes, ruled_takes, defined_takes, one_parameter_takes, one_section_takes}
+use Rattle.elan_syntax.proofs.ExactStreams.{one_module_takes}
 
-pub more_text_reads : (n : ℕ) (ts : List Seen) →
-    more_text.read n ts ≡ cond (begins_with (a in_text) ts) (after (text_token.read n ts) (λ _. more_text))
+-- ---- attributes
+
+first_is : (x : Attribute) (ts : List Seen) → begins_with (attribute x).first ts ≡ begins_with (a (begins_attribute x)) ts
+unfolding priority associativity ac_mark
+first_is Priority ts = refl
+first_is Associativity ts = refl
+first_is AcMark ts = refl
+
+pub one_of_reads : (x : Attribute) (n : ℕ) (ts : List Seen) →
+    (one_of x).read n ts
+    ≡ cond (begins_with (a (begins_attribute x)) ts) ((attribute x).read n ts) (done tt n ts)
+unfolding one_of
+one_of_reads x n ts = ap (λ d. cond d ((attribute x).read n ts) (done tt n ts)) (first_is x ts)
+
+pub two_of_reads : (x y : Attribute) (n : ℕ) (ts : List Seen) →
+    (two_of x y).read n ts
+    ≡ cond (begins_with (a (begins_attribute x)) ts) (after ((attribute x).read n ts) (λ _. one_of y))
+    (cond (begins_with (a (begins_attribute y)) ts) (after ((attribute y).read n ts) (λ _. one_of x)) (done tt n ts))
+unfolding two_of
+two_of_reads x y n ts =
+    ap (λ d. cond d (after ((attribute x).read n ts) (λ _. one_of y)) (cond (begins_with (attribute y).first ts)
+    (after ((attribute y).read n ts) (λ _. one_of x)) (done tt n ts))) (first_is x ts)
+    ∙ ap (λ d. cond (begins_with (a (begins_attribute x)) ts) (after ((attribute x).read n ts) (λ _. one_of y))
+    (cond d (after ((attribute y).read n ts) (λ _. one_of x)) (done tt n ts))) (first_is y ts)
+
+-- ---- loops
+
+pub more_spelled_reads : (n : ℕ) (ts : List Seen) →
+    more_spelled.read n ts ≡ cond (begins_with (a spelled) ts) (after ((taken (a spelled)).read n ts) (λ _. more_spelled))
     (done tt n ts)
-unfolding more_text
-more_text_reads n ts = loop_turn (λ _. a in_text) (λ _. text_token) (λ _. (text_token_takes 0).shrinks) tt n ts
+unfolding more_spelled
+more_spelled_reads n ts = loop_turn (λ _. a spelled) (λ _. taken (a spelled)) (λ _. (one_spelled_takes 0).shrinks) tt n ts
 
-pub more_sorts_reads : (found : List Span) (n : ℕ) (ts : List Seen) →
-    (more_sorts found).read n ts
-    ≡ cond (begins_with (a names) ts) (after (after ((span_of (a names)).read n ts)
-    (λ sort. pure (found ++ sort ∷ []))) more_sorts) (done found n ts)
-unfolding more_sorts
-more_sorts_reads found n ts = loop_turn (λ _. a names) (λ found. span_of (a names) >>=
-    (λ sort. pure (found ++ sort ∷ []))) (λ x. (one_sort_takes 0 x).shrinks) found n ts
-
-pub more_holes_reads : (n : ℕ) (ts : List Seen) →
-    more_holes.read n ts ≡ cond (begins_with (a (one Comma)) ts)
-    (after (after ((sign Comma).read n ts) (λ _. sign Hole)) (λ _. more_holes)) (done tt n ts)
-unfolding more_holes
-more_holes_reads n ts = loop_turn (λ _. a (one Comma)) (λ _. sign Comma >> sign Hole)
-    (λ _. (one_hole_takes 0).shrinks) tt n ts
+pub more_imports_reads : (found : List Span) (n : ℕ) (ts : List Seen) →
+    (more_imports found).read n ts ≡ cond (begins_with (a begins_imported) ts) (after ((one_import found).read n ts) more_imports)
+    (done found n ts)
+unfolding more_imports
+more_imports_reads found n ts = loop_turn (λ _. a begins_imported) one_import (λ x. (one_import_takes 0 x).shrinks) found n ts
 
 pub more_declared_reads : (found : List OpDecl) (n : ℕ) (ts : List Seen) →
-    (more_declared found).read n ts ≡ cond (begins_with (a begins_declared) ts)
-    (after ((declared found).read n ts) more_declared) (done found n ts)
+    (more_declared found).read n ts ≡ cond (begins_with (a begins_declared) ts) (after ((declared found).read n ts) more_declared)
+    (done found n ts)
 unfolding more_declared
-more_declared_reads found n ts = loop_turn (λ _. a begins_declared) declared (λ x. (declared_takes 0 x).shrinks) found
-    n ts
-
-pub more_names_reads : (found : List ℕ) (n : ℕ) (ts : List Seen) →
-    (more_names found).read n ts
-    ≡ cond (begins_with (a begins_another_name) ts) (after (after (another_name.read n ts)
-    (λ x. pure (found ++ x ∷ []))) more_names) (done found n ts)
-unfolding more_names
-more_names_reads found n ts = loop_turn (λ _. a begins_another_name)
-    (λ found. another_name >>= (λ x. pure (found ++ x ∷ []))) (λ x. (one_name_takes 0 x).shrinks) found n ts
-
-pub more_vars_reads : (found : List Vars) (n : ℕ) (ts : List Seen) →
-    (more_vars found).read n ts ≡ cond (begins_with (a names) ts)
-    (after (after (vars.read n ts) (λ v. pure (found ++ v ∷ []))) more_vars) (done found n ts)
-unfolding more_vars
-more_vars_reads found n ts = loop_turn (λ _. a names) (λ found. vars >>= (λ v. pure (found ++ v ∷ [])))
-    (λ x. (one_vars_takes 0 x).shrinks) found n ts
+more_declared_reads found n ts = loop_turn (λ _. a begins_declared) declared (λ x. (declared_takes 0 x).shrinks) found n ts
 
 pub more_ruled_reads : (found : List RuleOutline) (n : ℕ) (ts : List Seen) →
     (more_ruled found).read n ts ≡ cond (begins_with (a begins_ruled) ts) (after ((ruled found).read n ts) more_ruled)
@@ -62,10 +73,50 @@ pub more_ruled_reads : (found : List RuleOutline) (n : ℕ) (ts : List Seen) →
 unfolding more_ruled
 more_ruled_reads found n ts = loop_turn (λ _. a begins_ruled) ruled (λ x. (ruled_takes 0 x).shrinks) found n ts
 
+pub more_defined_reads : (found : List Definition) (n : ℕ) (ts : List Seen) →
+    (more_defined found).read n ts ≡ cond (begins_with (a begins_defined) ts) (after ((defined found).read n ts) more_defined)
+    (done found n ts)
+unfolding more_defined
+more_defined_reads found n ts = loop_turn (λ _. a begins_defined) defined (λ x. (defined_takes 0 x).shrinks) found n ts
+
+pub more_names_reads : (found : List ℕ) (n : ℕ) (ts : List Seen) →
+    (more_names found).read n ts ≡ cond (begins_with (a begins_another_name) ts)
+    (after (after (another_name.read n ts) (λ x. pure (found ++ x ∷ []))) more_names) (done found n ts)
+unfolding more_names
+more_names_reads found n ts = loop_turn (λ _. a begins_another_name) (λ found. another_name >>= (λ x. pure (found ++ x ∷ [])))
+    (λ x. (one_name_takes 0 x).shrinks) found n ts
+
+pub more_vars_reads : (found : List Vars) (n : ℕ) (ts : List Seen) →
+    (more_vars found).read n ts ≡ cond (begins_with (a names) ts)
+    (after (after (vars.read n ts) (λ x. pure (found ++ x ∷ []))) more_vars) (done found n ts)
+unfolding more_vars
+more_vars_reads found n ts = loop_turn (λ _. a names) (λ found. vars >>= (λ x. pure (found ++ x ∷ [])))
+    (λ x. (one_vars_takes 0 x).shrinks) found n ts
+
+pub more_clauses_reads : (found : List ClauseOutline) (n : ℕ) (ts : List Seen) →
+    (more_clauses found).read n ts ≡ cond (begins_with (a begins_clause) ts)
+    (after (after (clause_rule.read n ts) (λ x. pure (found ++ x ∷ []))) more_clauses) (done found n ts)
+unfolding more_clauses
+more_clauses_reads found n ts = loop_turn (λ _. a begins_clause) (λ found. clause_rule >>= (λ x. pure (found ++ x ∷ [])))
+    (λ x. (one_clause_takes 0 x).shrinks) found n ts
+
 pub sections_reads : (found : List Section) (n : ℕ) (ts : List Seen) →
-    (sections found).read n ts
-    ≡ cond (begins_with (a begins_section) ts) (after (after (section_rule.read n ts) (λ s. pure (found ++ s ∷ [])))
-    sections) (done found n ts)
+    (sections found).read n ts ≡ cond (begins_with (a begins_section) ts)
+    (after (after (section_rule.read n ts) (λ x. pure (found ++ x ∷ []))) sections) (done found n ts)
 unfolding sections
-sections_reads found n ts = loop_turn (λ _. a begins_section)
-    (λ found. section_rule >>= (λ s. pure (found ++ s ∷ []))) (λ x. (one_section_takes 0 x).shrinks) found n ts
+sections_reads found n ts = loop_turn (λ _. a begins_section) (λ found. section_rule >>= (λ x. pure (found ++ x ∷ [])))
+    (λ x. (one_section_takes 0 x).shrinks) found n ts
+
+pub more_modules_reads : (found : List ModuleOutline) (n : ℕ) (ts : List Seen) →
+    (more_modules found).read n ts ≡ cond (begins_with (a (one Module)) ts)
+    (after (after ((module_of (a names)).read n ts) (λ x. pure (found ++ x ∷ []))) more_modules) (done found n ts)
+unfolding more_modules
+more_modules_reads found n ts = loop_turn (λ _. a (one Module)) (λ found. module_of (a names) >>= (λ x. pure (found ++ x ∷ [])))
+    (λ x. (one_module_takes 0 x).shrinks) found n ts
+
+pub more_parameters_reads : (taken : Parameters) (n : ℕ) (ts : List Seen) →
+    (more_parameters taken).read n ts ≡ cond (begins_with (a (one Comma)) ts)
+    (after (after ((sign Comma).read n ts) (λ _. parameter taken)) more_parameters) (done taken n ts)
+unfolding more_parameters
+more_parameters_reads taken n ts = loop_turn (λ _. a (one Comma)) (λ taken. sign Comma >> parameter taken)
+    (λ x. (one_parameter_takes 0 x).shrinks) taken n ts

@@ -1,7 +1,17 @@
 -- The grammar, rule by rule. The value of a rule is a part of the outline.
-use Rattle.std.specs.Prelude.{ℕ, List, [], ◌∷◌, ◌++◌, Bool, true, not, ◌||◌, Option, None}
-use Rattle.elan_forms.specs.Form.{Form, ◌>>=◌, ◌>>◌, token, silent, counted, pure, either, optional, loop, nested, spanned, whole}
-use Rattle.elan_syntax.specs.declared.parts.Span.{Span}
+use Rattle.std.specs.Prelude.{ℕ, List, [], ◌∷◌, ◌++◌, Bool, Option, None}
+use Rattle.elan_forms.specs.Form.{◌>>=◌, ◌>>◌, token, pure, place, either, optional, loop, spanned, whole}
+use Rattle.elan_text.specs.declared.name.Name.{Name}
+use Rattle.elan_phrases.specs.declared.span.Span.{Span}
+use Rattle.elan_phrases.specs.declared.symbol.Symbol.{Symbol}
+use Rattle.elan_phrases.specs.declared.symbol.Symbol.TheVariants.{Module, Import, Sort, Operators, Rules, Strategies, For, Where, If, End, Lpl, Arrow, Becomes, Comma, Semicolon, Colon, LeftRound, RightRound, LeftSquare, RightSquare, Pri, Ac, Description, Query, Of, Result, Start, With}
+use Rattle.elan_phrases.specs.declared.symbol.Importer.TheVariants.{AModule, AnLplText}
+use Rattle.elan_phrases.specs.Symbols.{Seen, one, a, names, labels, spelled, associativities, importable, small_numbers, fresh, the_name}
+use Rattle.elan_phrases.specs.Beginnings.{begins_another_name, begins_imported, begins_declared, begins_ruled, begins_clause, begins_mark, begins_defined, begins_section}
+use Rattle.elan_phrases.specs.Tokens.{Rule, taken, sign, number_of, span, span_of, name, visibility}
+use Rattle.elan_phrases.specs.Texts.{text}
+use Rattle.elan_phrases.specs.SortExpressions.{closing_arguments, sort_span, more_sorts, references}
+use Rattle.elan_phrases.specs.Strategies.{strategy_span, some_strategy}
 use Rattle.elan_syntax.specs.declared.parts.Outline.{Outline}
 use Rattle.elan_syntax.specs.declared.parts.ModuleOutline.{ModuleOutline}
 use Rattle.elan_syntax.specs.declared.parts.Section.{Section}
@@ -9,123 +19,44 @@ use Rattle.elan_syntax.specs.declared.parts.Section.TheVariants as section
 use Rattle.elan_syntax.specs.declared.parts.OpDecl.{OpDecl}
 use Rattle.elan_syntax.specs.declared.parts.Vars.{Vars}
 use Rattle.elan_syntax.specs.declared.parts.RuleOutline.{RuleOutline}
+use Rattle.elan_syntax.specs.declared.parts.ClauseOutline.{ClauseOutline}
+use Rattle.elan_syntax.specs.declared.parts.ClauseOutline.TheVariants as clause
+use Rattle.elan_syntax.specs.declared.parts.Definition.{Definition}
 use Rattle.elan_syntax.specs.declared.parts.LplOutline.{LplOutline}
-use Rattle.elan_syntax.specs.declared.rules.VarsAndRules.{VarsAndRules}
-use Rattle.elan_syntax.specs.declared.symbol.Symbol.{Symbol}
-use Rattle.elan_syntax.specs.declared.symbol.Symbol.TheVariants.{Module, Import, Sort, Operators, Rules, For, End, Lpl, Arrow, Comma, Semicolon, Colon, LeftRound, RightRound, LeftSquare, RightSquare, Hole, Dk, Description, Query, Of, Result, Start, With}
-use Rattle.elan_syntax.specs.Symbols.{Seen, one, a, names, labels, plain_steps, imported, visibilities, in_text}
+use Rattle.elan_syntax.specs.declared.attributes.Attribute.{Attribute}
+use Rattle.elan_syntax.specs.declared.attributes.Attribute.TheVariants.{Priority, Associativity, AcMark}
+use Rattle.elan_syntax.specs.declared.rules.RulesFor.{RulesFor}
+use Rattle.elan_syntax.specs.declared.definitions.StrategiesFor.{StrategiesFor}
+use Rattle.elan_syntax.specs.declared.parameters.Parameters.{Parameters}
 
--- A rule of the grammar, with its value.
-abbrev pub Rule : Type 0 → Type 1
-Rule V = Form Seen V
+-- ---- imports
 
--- ---- tokens
+-- ref { ref } ";", behind those found
+unfoldable pub import_list : List Span → Rule (List Span)
+import_list before = do
+  found ← references (importable AModule) before
+  sign Semicolon
+  pure found
 
--- one token that passes the test
-abbrev pub taken : (Seen → Bool) → Rule (Unit {0})
-taken p = token p >> pure tt
+-- [ vis ] ref { ref } ";", behind those found
+unfoldable pub one_import : List Span → Rule (List Span)
+one_import found = either (visibility >> import_list found) (import_list found)
 
--- one token of this symbol
-abbrev pub sign : Symbol → Rule (Unit {0})
-sign s = taken (a (one s))
+-- { [ vis ] ref { ref } ";" }
+unfoldable pub more_imports : List Span → Rule (List Span)
+more_imports = loop (λ _. a begins_imported) one_import
 
--- one token that passes the test; the value is its number
-abbrev pub number_of : (Seen → Bool) → Rule ℕ
-number_of p = spanned (λ first past. first) (token p)
-
--- the tokens from one number up to another
-abbrev pub span : ℕ → ℕ → Span
-span first past = record { first = first; past = past }
-
--- one token that passes the test, as a span
-abbrev pub span_of : (Seen → Bool) → Rule Span
-span_of p = spanned span (token p)
-
--- a word that is not reserved
-unfoldable pub name : Rule (Unit {0})
-name = taken (a names)
-
--- `global` or `local`
-unfoldable pub visibility : Rule (Unit {0})
-visibility = taken (a visibilities)
-
--- ---- texts
-
--- a token of a text
-unfoldable pub text_token : Rule (Unit {0})
-text_token = taken (a in_text)
-
--- { text token }
-unfoldable pub more_text : Rule (Unit {0})
-more_text = loop (λ _. a in_text) (λ _. text_token) tt
-
--- one or more tokens of a text
-unfoldable pub text : Rule Span
-text = spanned span (text_token >> more_text)
-
--- ---- strategies
-
--- A limited rule takes how many tokens are left for it, and its value is how many are left then.
-abbrev pub Limited : Type 1
-Limited = ℕ → Rule ℕ
-
--- { "," strategy }
-unfoldable pub more_arms : Limited → Limited
-more_arms strategy = loop (λ _. a (one Comma)) (λ left. counted (a (one Comma)) left >>= strategy)
-
--- "dk" "(" strategy { "," strategy } ")"
-unfoldable pub all_of : Limited → Limited
-all_of strategy left = do
-  left ← counted (a (one Dk)) left
-  left ← counted (a (one LeftRound)) left
-  left ← strategy left
-  left ← more_arms strategy left
-  counted (a (one RightRound)) left
-
--- "(" strategy ")"
-unfoldable pub inside : Limited → Limited
-inside strategy left = do
-  left ← counted (a (one LeftRound)) left
-  left ← strategy left
-  counted (a (one RightRound)) left
-
--- step = "id" | "fail" | LABEL | "(" strategy ")" | "dk" "(" strategy { "," strategy } ")"
-unfoldable pub step : Limited → Limited
-step strategy left =
-    either (counted (a plain_steps) left)
-    (either (inside strategy left) (all_of strategy left))
-
--- { ";" step }
-unfoldable pub more_steps : Limited → Limited
-more_steps strategy = loop (λ _. a (one Semicolon)) (λ left. counted (a (one Semicolon)) left >>= step strategy)
-
--- step { ";" step }
-unfoldable pub strategy_body : Limited → Limited
-strategy_body strategy left = step strategy left >>= more_steps strategy
-
--- a token with which a step begins
-abbrev pub begins_step : Symbol → Bool
-begins_step s = plain_steps s || (one LeftRound s || one Dk s)
-
--- strategy = step { ";" step }
-unfoldable pub strategy : Limited
-strategy = nested (a begins_step) strategy_body
-
--- A strategy has at most so many tokens.
-abbrev pub most_strategy_tokens : ℕ
-most_strategy_tokens = 256
-
--- [ strategy ]
-unfoldable pub some_strategy : Rule (Option Span)
-some_strategy = optional (spanned span (strategy most_strategy_tokens))
+-- imports = "import" { [ vis ] ref { ref } ";" } "end"
+unfoldable pub imports : Rule Section
+imports = do
+  sign Import
+  found ← more_imports []
+  sign End
+  pure (section.Imports found)
 
 -- ---- sorts
 
--- { NAME }, each as a span behind those found
-unfoldable pub more_sorts : List Span → Rule (List Span)
-more_sorts = loop (λ _. a names) (λ found. span_of (a names) >>= (λ sort. pure (found ++ sort ∷ [])))
-
--- sorts = "sort" { NAME } ";" "end"
+-- sorts = "sort" { sortx } ";" "end"
 unfoldable pub sorts : Rule Section
 sorts = do
   sign Sort
@@ -134,59 +65,90 @@ sorts = do
   sign End
   pure (section.Sorts found)
 
--- ---- operators
+-- ---- attributes of operators
 
--- { "," "@" }
-unfoldable pub more_holes : Rule (Unit {0})
-more_holes = loop (λ _. a (one Comma)) (λ _. sign Comma >> sign Hole) tt
+-- "pri" NUMBER, which is at most 255
+unfoldable pub priority : Rule (Unit {0})
+priority = sign Pri >> taken small_numbers
 
--- "(" "@" { "," "@" } ")"
-unfoldable pub holes : Rule (Unit {0})
-holes = do
+-- "assocLeft" | "assocRight"
+unfoldable pub associativity : Rule (Unit {0})
+associativity = taken (a associativities)
+
+-- "(" "AC" ")"
+unfoldable pub ac_mark : Rule (Unit {0})
+ac_mark = do
   sign LeftRound
-  sign Hole
-  more_holes
+  sign Ac
   sign RightRound
 
--- NAME [ "(" "@" { "," "@" } ")" ]
-unfoldable pub spelling : Rule Span
-spelling = spanned span (name >> optional holes)
+-- an attribute of this kind
+abbrev pub attribute : Attribute → Rule (Unit {0})
+attribute Priority = priority
+attribute Associativity = associativity
+attribute AcMark = ac_mark
 
--- "(" NAME { NAME } ")"
-unfoldable pub arguments : Rule (List Span)
-arguments = do
+-- with which an attribute of this kind begins
+abbrev pub begins_attribute : Attribute → Symbol → Bool
+begins_attribute Priority s = one Pri s
+begins_attribute Associativity s = associativities s
+begins_attribute AcMark s = one LeftRound s
+
+-- this attribute, or nothing
+unfoldable pub one_of : Attribute → Rule (Unit {0})
+one_of x = either (attribute x) (pure tt)
+
+-- these two, each at most once, in any order
+unfoldable pub two_of : Attribute → Attribute → Rule (Unit {0})
+two_of x y =
+    either (attribute x >> one_of y)
+    (either (attribute y >> one_of x) (pure tt))
+
+-- { attribute }, where each of the three stands at most once, in any order
+unfoldable pub some_attributes : Rule (Unit {0})
+some_attributes =
+    either (attribute Priority >> two_of Associativity AcMark)
+    (either (attribute Associativity >> two_of Priority AcMark)
+    (either (attribute AcMark >> two_of Priority Associativity) (pure tt)))
+
+-- ---- operators
+
+-- { spell }
+unfoldable pub more_spelled : Rule (Unit {0})
+more_spelled = loop (λ _. a spelled) (λ _. taken (a spelled)) tt
+
+-- spell { spell }
+unfoldable pub spelling : Rule Span
+spelling = spanned span (taken (a spelled) >> more_spelled)
+
+-- "(" { sortx } ")"
+unfoldable pub argument_sorts : Rule (List Span)
+argument_sorts = do
   sign LeftRound
-  sort ← span_of (a names)
-  found ← more_sorts (sort ∷ [])
+  found ← more_sorts []
   sign RightRound
   pure found
 
--- [ arguments ]
-abbrev pub some_arguments : Rule (List Span)
-some_arguments = either arguments (pure [])
+-- [ "(" { sortx } ")" ]
+abbrev pub some_argument_sorts : Rule (List Span)
+some_argument_sorts = either argument_sorts (pure [])
 
--- no attribute, where one may stand
-abbrev pub no_attributes : Rule Span
-no_attributes = silent (λ n. span n n)
-
--- opdecl = NAME [ "(" "@" { "," "@" } ")" ] ":" [ "(" NAME { NAME } ")" ] NAME ";"
+-- opdecl = spell { spell } ":" [ "(" { sortx } ")" ] sortx { attribute } ";"
 unfoldable pub declaration : Rule OpDecl
 declaration = do
   spelling ← spelling
   sign Colon
-  args ← some_arguments
-  sort ← span_of (a names)
-  attributes ← no_attributes
+  args ← some_argument_sorts
+  sort ← sort_span
+  first ← place
+  some_attributes
+  past ← place
   sign Semicolon
-  pure (record { spelling = spelling; args = args; sort = sort; attributes = attributes })
+  pure (record { spelling = spelling; args = args; sort = sort; attributes = span first past })
 
 -- vis | opdecl, a declaration behind those found
 unfoldable pub declared : List OpDecl → Rule (List OpDecl)
 declared found = either (visibility >> pure found) (declaration >>= (λ d. pure (found ++ d ∷ [])))
-
--- a token with which `declared` begins
-abbrev pub begins_declared : Symbol → Bool
-begins_declared s = visibilities s || names s
 
 -- { vis | opdecl }
 unfoldable pub more_declared : List OpDecl → Rule (List OpDecl)
@@ -200,27 +162,23 @@ operators = do
   sign End
   pure (section.Operators found)
 
--- ---- rules
+-- ---- variables
 
 -- [ "," ] NAME
 unfoldable pub another_name : Rule ℕ
 another_name = either (sign Comma >> number_of (a names)) (number_of (a names))
 
--- a token with which `another_name` begins
-abbrev pub begins_another_name : Symbol → Bool
-begins_another_name s = one Comma s || names s
-
 -- { [ "," ] NAME }, each behind those found
 unfoldable pub more_names : List ℕ → Rule (List ℕ)
 more_names = loop (λ _. a begins_another_name) (λ found. another_name >>= (λ n. pure (found ++ n ∷ [])))
 
--- vars = NAME { [ "," ] NAME } ":" NAME ";"
+-- vars = NAME { [ "," ] NAME } ":" sortx ";"
 unfoldable pub vars : Rule Vars
 vars = do
   first ← number_of (a names)
   found ← more_names (first ∷ [])
   sign Colon
-  sort ← span_of (a names)
+  sort ← sort_span
   sign Semicolon
   pure (record { names = found; sort = sort })
 
@@ -228,7 +186,36 @@ vars = do
 unfoldable pub more_vars : List Vars → Rule (List Vars)
 more_vars = loop (λ _. a names) (λ found. vars >>= (λ v. pure (found ++ v ∷ [])))
 
--- "[", whose number is that of the rule
+-- ---- rules
+
+-- "where" text ":=" "(" [ strategy ] ")" text
+unfoldable pub where_clause : Rule ClauseOutline
+where_clause = do
+  sign Where
+  left ← text
+  sign Becomes
+  sign LeftRound
+  by ← some_strategy
+  sign RightRound
+  of ← text
+  pure (clause.Where left by of)
+
+-- "if" text
+unfoldable pub if_clause : Rule ClauseOutline
+if_clause = do
+  sign If
+  condition ← text
+  pure (clause.If condition)
+
+-- clause = "where" text ":=" "(" [ strategy ] ")" text | "if" text
+unfoldable pub clause_rule : Rule ClauseOutline
+clause_rule = either where_clause if_clause
+
+-- { clause }, each behind those found
+unfoldable pub more_clauses : List ClauseOutline → Rule (List ClauseOutline)
+more_clauses = loop (λ _. a begins_clause) (λ found. clause_rule >>= (λ c. pure (found ++ c ∷ [])))
+
+-- "[", whose number is that of the rule or definition that it begins
 abbrev pub bracket : Rule ℕ
 bracket = number_of (a (one LeftSquare))
 
@@ -236,16 +223,17 @@ bracket = number_of (a (one LeftSquare))
 abbrev pub some_label : Rule (Option ℕ)
 some_label = optional (number_of (a labels))
 
--- text "=>" text "end", of a rule that begins at this token and has this label
+-- text "=>" text { clause } "end", of a rule that begins at this token and has this label
 unfoldable pub sides : ℕ → Option ℕ → Rule RuleOutline
 sides at label = do
   left ← text
   sign Arrow
   right ← text
+  clauses ← more_clauses []
   sign End
-  pure (record { at = at; label = label; left = left; right = right; clauses = [] })
+  pure (record { at = at; label = label; left = left; right = right; clauses = clauses })
 
--- rule = "[" [ LABEL ] "]" text "=>" text "end"
+-- rule = "[" [ LABEL ] "]" text "=>" text { clause } "end"
 unfoldable pub rule : Rule RuleOutline
 rule = do
   at ← bracket
@@ -253,109 +241,222 @@ rule = do
   sign RightSquare
   sides at label
 
--- "[" "]" text "=>" text "end"
-unfoldable pub bare_rule : Rule RuleOutline
-bare_rule = do
-  at ← bracket
-  sign RightSquare
-  sides at None
-
 -- vis | rule, a rule behind those found
 unfoldable pub ruled : List RuleOutline → Rule (List RuleOutline)
 ruled found = either (visibility >> pure found) (rule >>= (λ r. pure (found ++ r ∷ [])))
-
--- a token with which `ruled` begins
-abbrev pub begins_ruled : Symbol → Bool
-begins_ruled s = visibilities s || one LeftSquare s
 
 -- { vis | rule }
 unfoldable pub more_ruled : List RuleOutline → Rule (List RuleOutline)
 more_ruled = loop (λ _. a begins_ruled) ruled
 
--- a rule without a label, and then { vis | rule }
-unfoldable pub bare_rule_first : Rule VarsAndRules
-bare_rule_first = do
-  first ← bare_rule
+-- a section of rules for this sort
+abbrev pub rules_of : Span → List Vars → List RuleOutline → RulesFor
+rules_of sort vars rules = record { sort = sort; vars = vars; rules = rules }
+
+-- "]" text "=>" text { clause } "end" { vis | rule }, behind the name of the sort and the `[` of this number
+unfoldable pub bare_rule_first : Span → ℕ → Rule RulesFor
+bare_rule_first name at = do
+  sign RightSquare
+  first ← sides at None
   found ← more_ruled (first ∷ [])
-  pure (record { vars = []; rules = found })
+  pure (rules_of name [] found)
+
+-- sortx { "," sortx } "]" { vars } { vis | rule }, behind the name of the sort and a `[`
+unfoldable pub ruled_sort : Span → Rule RulesFor
+ruled_sort name = do
+  closing_arguments
+  past ← place
+  variables ← more_vars []
+  found ← more_ruled []
+  pure (rules_of (span name.first past) variables found)
+
+-- A `[` directly after the name of the sort is the first of a rule where `]` follows, and else it belongs to the sort.
+unfoldable pub ruled_bracket : Span → Rule RulesFor
+ruled_bracket name = bracket >>= (λ at. either (bare_rule_first name at) (ruled_sort name))
 
 -- vars { vars } { vis | rule }
-unfoldable pub vars_first : Rule VarsAndRules
-vars_first = do
+unfoldable pub vars_first : Span → Rule RulesFor
+vars_first name = do
   first ← vars
   variables ← more_vars (first ∷ [])
   found ← more_ruled []
-  pure (record { vars = variables; rules = found })
+  pure (rules_of name variables found)
 
 -- vis { vis | rule }
-unfoldable pub visibility_first : Rule VarsAndRules
-visibility_first = do
+unfoldable pub visibility_first : Span → Rule RulesFor
+visibility_first name = do
   visibility
   found ← more_ruled []
-  pure (record { vars = []; rules = found })
+  pure (rules_of name [] found)
 
--- no variable and no rule
-abbrev pub nothing_declared : VarsAndRules
-nothing_declared = record { vars = []; rules = [] }
+-- What stands behind the name of the sort of a section of rules. A `[` there is told by the token behind it, so a first
+-- rule with a label has variables, `global` or `local` before it, or a sort with brackets.
+unfoldable pub behind_ruled : Span → Rule RulesFor
+behind_ruled name =
+    either (ruled_bracket name)
+    (either (vars_first name)
+    (either (visibility_first name) (pure (rules_of name [] []))))
 
--- { vars } { vis | rule } behind the sort of the section. A `[` directly after the sort is followed by `]`, so a rule
--- with a label has variables, `global` or `local` before it.
-unfoldable pub vars_and_rules : Rule VarsAndRules
-vars_and_rules = either bare_rule_first (either vars_first (either visibility_first (pure nothing_declared)))
+-- sortx { vars } { vis | rule }, told by its first tokens
+unfoldable pub rules_for : Rule RulesFor
+rules_for = span_of (a names) >>= behind_ruled
 
--- { vars } { vis | rule }, whatever the first token is
-unfoldable pub plain_rules : Rule VarsAndRules
-plain_rules = do
-  variables ← more_vars []
-  found ← more_ruled []
-  pure (record { vars = variables; rules = found })
-
--- where the tokens begin with `[`, the next one is `]`
-abbrev pub is_closed : List Seen → Bool
-is_closed [] = true
-is_closed (t ∷ []) = true
-is_closed (t ∷ u ∷ ts) = not (a (one LeftSquare) t) || a (one RightSquare) u
-
--- rules = "rules" "for" NAME { vars } { vis | rule } "end"
+-- rules = "rules" "for" sortx { vars } { vis | rule } "end"
 unfoldable pub rules : Rule Section
 rules = do
   sign Rules
   sign For
-  sort ← span_of (a names)
-  found ← vars_and_rules
+  found ← rules_for
   sign End
-  pure (section.Rules sort found.vars found.rules)
+  pure (section.Rules found.sort found.vars found.rules)
 
--- ---- whole texts
+-- ---- strategies
 
--- sorts | operators | rules
+-- "]" LABEL "=>" strategy "end", behind the `[` of this number
+unfoldable pub definition_behind : ℕ → Rule Definition
+definition_behind at = do
+  sign RightSquare
+  name ← number_of (a labels)
+  sign Arrow
+  by ← strategy_span
+  sign End
+  pure (record { at = at; name = name; by = by })
+
+-- definition = "[" "]" LABEL "=>" strategy "end"
+unfoldable pub definition : Rule Definition
+definition = bracket >>= definition_behind
+
+-- vis | "implicit"
+unfoldable pub mark : Rule (Unit {0})
+mark = taken (a begins_mark)
+
+-- vis | "implicit" | definition, a definition behind those found
+unfoldable pub defined : List Definition → Rule (List Definition)
+defined found = either (mark >> pure found) (definition >>= (λ d. pure (found ++ d ∷ [])))
+
+-- { vis | "implicit" | definition }
+unfoldable pub more_defined : List Definition → Rule (List Definition)
+more_defined = loop (λ _. a begins_defined) defined
+
+-- a section of strategies for this sort
+abbrev pub strategies_of : Span → List Definition → StrategiesFor
+strategies_of sort definitions = record { sort = sort; definitions = definitions }
+
+-- "]" LABEL "=>" strategy "end" { vis | "implicit" | definition }, behind the name of the sort and the `[` of this number
+unfoldable pub definition_first : Span → ℕ → Rule StrategiesFor
+definition_first name at = do
+  first ← definition_behind at
+  found ← more_defined (first ∷ [])
+  pure (strategies_of name found)
+
+-- sortx { "," sortx } "]" { vis | "implicit" | definition }, behind the name of the sort and a `[`
+unfoldable pub defined_sort : Span → Rule StrategiesFor
+defined_sort name = do
+  closing_arguments
+  past ← place
+  found ← more_defined []
+  pure (strategies_of (span name.first past) found)
+
+-- A `[` directly after the name of the sort is the first of a definition where `]` follows, and else it belongs to the
+-- sort.
+unfoldable pub defined_bracket : Span → Rule StrategiesFor
+defined_bracket name = bracket >>= (λ at. either (definition_first name at) (defined_sort name))
+
+-- ( vis | "implicit" ) { vis | "implicit" | definition }
+unfoldable pub mark_first : Span → Rule StrategiesFor
+mark_first name = do
+  mark
+  found ← more_defined []
+  pure (strategies_of name found)
+
+-- What stands behind the name of the sort of a section of strategies. A `[` there is told by the token behind it.
+unfoldable pub behind_defined : Span → Rule StrategiesFor
+behind_defined name = either (defined_bracket name) (either (mark_first name) (pure (strategies_of name [])))
+
+-- sortx { vis | "implicit" | definition }, told by its first tokens
+unfoldable pub strategies_for : Rule StrategiesFor
+strategies_for = span_of (a names) >>= behind_defined
+
+-- strategies = "strategies" "for" sortx { vis | "implicit" | definition } "end"
+unfoldable pub strategies : Rule Section
+strategies = do
+  sign Strategies
+  sign For
+  found ← strategies_for
+  sign End
+  pure (section.Strategies found.sort found.definitions)
+
+-- ---- modules
+
+-- these parameters and one more, by its number and its bytes
+abbrev pub with_parameter : Parameters → ℕ → List ℕ → Parameters
+with_parameter taken at word =
+    record { numbers = taken.numbers ++ at ∷ []; names = taken.names ++ record { bytes = word } ∷ [] }
+
+-- no parameters
+abbrev pub no_parameters : Parameters
+no_parameters = record { numbers = []; names = [] }
+
+-- NAME, which is none of the parameters before it
+unfoldable pub parameter : Parameters → Rule Parameters
+parameter taken = do
+  at ← place
+  t ← token (fresh taken.names)
+  pure (with_parameter taken at t.text)
+
+-- { "," NAME }, each behind those found
+unfoldable pub more_parameters : Parameters → Rule Parameters
+more_parameters = loop (λ _. a (one Comma)) (λ taken. sign Comma >> parameter taken)
+
+-- "[" NAME { "," NAME } "]", where the names differ
+unfoldable pub parameters : Rule (List ℕ)
+parameters = do
+  sign LeftSquare
+  first ← parameter no_parameters
+  found ← more_parameters first
+  sign RightSquare
+  pure found.numbers
+
+-- [ "[" NAME { "," NAME } "]" ]
+abbrev pub some_parameters : Rule (List ℕ)
+some_parameters = either parameters (pure [])
+
+-- section = imports | sorts | operators | rules | strategies
 unfoldable pub section_rule : Rule Section
-section_rule = either sorts (either operators rules)
+section_rule = either imports (either sorts (either operators (either rules strategies)))
 
--- a token with which a section begins
-abbrev pub begins_section : Symbol → Bool
-begins_section s = one Sort s || (one Operators s || one Rules s)
-
--- { sorts | operators | rules }, each behind those found
+-- { section }, each behind those found
 unfoldable pub sections : List Section → Rule (List Section)
 sections = loop (λ _. a begins_section) (λ found. section_rule >>= (λ s. pure (found ++ s ∷ [])))
 
--- module = "module" NAME { sorts | operators | rules } "end"
-unfoldable pub module_rule : Rule ModuleOutline
-module_rule = do
-  sign Module
-  name ← number_of (a names)
+-- [ "[" NAME { "," NAME } "]" ] { section } "end", behind a name of this number
+unfoldable pub module_behind : ℕ → Rule ModuleOutline
+module_behind name = do
+  parameters ← some_parameters
   found ← sections []
   sign End
-  pure (record { name = name; parameters = []; sections = found })
+  pure (record { name = name; parameters = parameters; sections = found })
 
--- WORD "of" "sort" NAME
+-- module = "module" NAME [ "[" NAME { "," NAME } "]" ] { section } "end", whose first NAME passes the test
+unfoldable pub module_of : (Seen → Bool) → Rule ModuleOutline
+module_of p = do
+  sign Module
+  name ← number_of p
+  module_behind name
+
+-- { module }, each behind those found
+unfoldable pub more_modules : List ModuleOutline → Rule (List ModuleOutline)
+more_modules = loop (λ _. a (one Module)) (λ found. module_of (a names) >>= (λ m. pure (found ++ m ∷ [])))
+
+-- ---- whole texts
+
+-- WORD "of" "sort" sortx
 unfoldable pub sort_of : Symbol → Rule Span
 sort_of word = do
   sign word
   sign Of
   sign Sort
-  span_of (a names)
+  sort_span
 
 -- "start" "with" "(" [ strategy ] ")"
 unfoldable pub start_with : Rule (Option Span)
@@ -367,15 +468,12 @@ start_with = do
   sign RightRound
   pure start
 
--- "import" NAME, which is not `start`
-unfoldable pub imports : Rule (List Span)
-imports = do
-  sign Import
-  reference ← span_of (a imported)
-  pure (reference ∷ [])
+-- "import" ref { ref }, where the word `start` ends the list
+unfoldable pub lpl_imports : Rule (List Span)
+lpl_imports = sign Import >> references (importable AnLplText) []
 
--- lpl = "LPL" NAME "description" "query" "of" "sort" NAME "result" "of" "sort" NAME "import" NAME
---       "start" "with" "(" [ strategy ] ")" "query" "end", where the imported NAME is not `start`
+-- lpl = "LPL" NAME "description" "query" "of" "sort" sortx "result" "of" "sort" sortx "import" ref { ref }
+--       "start" "with" "(" [ strategy ] ")" "query" "end"
 unfoldable pub lpl : Rule LplOutline
 lpl = do
   sign Lpl
@@ -383,21 +481,25 @@ lpl = do
   sign Description
   query_sort ← sort_of Query
   result_sort ← sort_of Result
-  imports ← imports
+  imports ← lpl_imports
   start ← start_with
   sign Query
   sign End
   pure (record { query_sort = query_sort; result_sort = result_sort; imports = imports; start = start })
 
--- module lpl text "end"
+-- { module } lpl text "end"
 unfoldable pub program : Rule Outline
 program = do
-  first ← module_rule
+  modules ← more_modules []
   lpl ← lpl
   query ← text
   sign End
-  pure (record { modules = first ∷ []; lpl = lpl; query = query })
+  pure (record { modules = modules; lpl = lpl; query = query })
 
--- stream = module lpl text "end", and after it the stream ends
+-- stream = { module } lpl text "end", and after it the stream ends
 abbrev pub stream : Rule Outline
 stream = whole program
+
+-- the text of one module of this name, and after it the text ends
+abbrev pub module_text : Name → Rule ModuleOutline
+module_text name = whole (module_of (the_name name))

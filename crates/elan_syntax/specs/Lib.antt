@@ -1,4 +1,3 @@
-pub mod Symbols
 pub mod Grammar
+pub mod PlainGrammar
 pub mod Outlines
-pub mod Input

@@ -1,29 +1,28 @@
 //! The outline of a text: its modules, sections and rules, as numbers of its tokens.
 #![tactic(auto)]
 
+mod attributes;
+mod clauses;
+mod definitions;
 mod entry;
-mod halt;
+mod imports;
 pub mod laws;
-mod lexemes;
 mod lpl;
 mod modules;
+#[cfg(test)]
+mod numbered;
 mod operators;
+mod parameters;
 mod parts;
-mod reader;
-mod refusal;
 mod rules;
 mod sorts;
-mod strategies;
-mod symbol;
 #[cfg(test)]
 mod tests;
-mod texts;
 mod variables;
 
-pub use entry::outline;
+pub use elan_phrases::Span;
+pub use entry::{module_outline, outline};
 pub use parts::{
     ClauseOutline, Definition, LplOutline, ModuleOutline, OpDecl, Outline, RuleOutline, Section,
-    Span, Vars,
+    Vars,
 };
-pub use refusal::OutlineRefusal;
-pub use symbol::{Lexeme, Symbol};

@@ -1,19 +1,13 @@
 //! The `LPL` text.
 
 ghost use Rattle.std.specs.Prelude.{◌≡◌, ◌<◌, ◌≤◌, length, IfOk};
-ghost use Rattle.elan_syntax.specs.Input.{Reads};
+ghost use Rattle.elan_phrases.specs.Input.{Reads};
 ghost use Rattle.elan_syntax.specs.Grammar as grammar;
 
-use crate::halt::{Halt, pushed};
-use crate::parts::{LplOutline, Span};
-use crate::reader::Reader;
-use crate::strategies::strategy;
-use crate::symbol::Symbol;
+use crate::parts::LplOutline;
+use elan_phrases::{Halt, Importer, Reader, Span, Symbol, references, some_strategy, sort_span};
 use sqlite_items::Items;
 use std::alloc::Global;
-
-/// The most tokens that a strategy may have.
-const MOST_STRATEGY_TOKENS: u32 = 256;
 
 /// Takes the `LPL` text.
 #[tactic(auto, unfolding(crate::specs::Grammar::lpl))]
@@ -26,7 +20,7 @@ pub fn lpl(alloc: Global, reader: &mut Reader<'_>) -> Result<LplOutline, Halt>
     reader.sign(Symbol::Description)?;
     let query_sort = sort_of(reader, Symbol::Query)?;
     let result_sort = sort_of(reader, Symbol::Result)?;
-    let imports = imports(alloc, reader)?;
+    let imports = lpl_imports(alloc, reader)?;
     let start = start_with(reader)?;
     reader.sign(Symbol::Query)?;
     reader.sign(Symbol::End)?;
@@ -47,19 +41,17 @@ fn sort_of(reader: &mut Reader<'_>, word: Symbol) -> Result<Span, Halt>
     reader.sign(word)?;
     reader.sign(Symbol::Of)?;
     reader.sign(Symbol::Sort)?;
-    reader.name_span()
+    sort_span(reader)
 }
 
 /// Takes the imports.
-#[tactic(auto, unfolding(crate::specs::Grammar::imports))]
-fn imports(alloc: Global, reader: &mut Reader<'_>) -> Result<Items<Span>, Halt>
-    ensures read { Reads grammar.imports reader.old result reader.new }
+#[tactic(auto, unfolding(crate::specs::Grammar::lpl_imports))]
+fn lpl_imports(alloc: Global, reader: &mut Reader<'_>) -> Result<Items<Span>, Halt>
+    ensures read { Reads grammar.lpl_imports reader.old result reader.new }
     ensures shorter { IfOk result (λ _. length reader.new.rest < length reader.old.rest) }
 {
     reader.sign(Symbol::Import)?;
-    let fits = reader.sees_imported();
-    let reference = reader.span(fits)?;
-    pushed(Items::new(alloc), reference)
+    references(reader, Importer::AnLplText, Items::new(alloc))
 }
 
 /// Takes the start strategy with `start with` and its parentheses.
@@ -74,22 +66,4 @@ fn start_with(reader: &mut Reader<'_>) -> Result<Option<Span>, Halt>
     let start = some_strategy(reader)?;
     reader.sign(Symbol::RightRound)?;
     Ok(start)
-}
-
-/// Takes a strategy, where there is one.
-#[tactic(auto, unfolding(crate::specs::Grammar::some_strategy, crate::specs::Grammar::strategy, elan_forms::specs::Form::nested))]
-fn some_strategy(reader: &mut Reader<'_>) -> Result<Option<Span>, Halt>
-    ensures read { Reads grammar.some_strategy reader.old result reader.new }
-    ensures no_longer { IfOk result (λ _. length reader.new.rest ≤ length reader.old.rest) }
-{
-    if reader.sees_step() {
-        let first = reader.at();
-        strategy(reader, MOST_STRATEGY_TOKENS)?;
-        Ok(Some(Span {
-            first,
-            past: reader.at(),
-        }))
-    } else {
-        Ok(None)
-    }
 }

@@ -1,14 +1,12 @@
 //! Sections of operators.
 
 ghost use Rattle.std.specs.Prelude.{◌≡◌, ◌<◌, ◌≤◌, [], length, IfOk};
-ghost use Rattle.elan_syntax.specs.Input.{Reads};
+ghost use Rattle.elan_phrases.specs.Input.{Reads};
 ghost use Rattle.elan_syntax.specs.Grammar as grammar;
 
-use crate::halt::{Halt, pushed};
-use crate::parts::{OpDecl, Section, Span};
-use crate::reader::Reader;
-use crate::sorts::more_sorts;
-use crate::symbol::Symbol;
+use crate::attributes::some_attributes;
+use crate::parts::{OpDecl, Section};
+use elan_phrases::{Halt, Reader, Span, Symbol, more_sorts, pushed, sort_span};
 use sqlite_items::Items;
 use std::alloc::Global;
 
@@ -38,7 +36,7 @@ fn more_declared(alloc: Global, reader: &mut Reader<'_>) -> Result<Items<OpDecl>
 }
 
 /// Takes a declaration and puts it behind those before, or skips `global` or `local`.
-#[tactic(auto, unfolding(crate::specs::Grammar::declared, crate::specs::Grammar::visibility))]
+#[tactic(auto, unfolding(crate::specs::Grammar::declared, elan_phrases::specs::Tokens::visibility))]
 fn declared(
     alloc: Global,
     reader: &mut Reader<'_>,
@@ -64,86 +62,69 @@ fn declaration(alloc: Global, reader: &mut Reader<'_>) -> Result<OpDecl, Halt>
 {
     let spelling = spelling(reader)?;
     reader.sign(Symbol::Colon)?;
-    let args = some_arguments(alloc, reader)?;
-    let sort = reader.name_span()?;
-    let end = reader.at();
+    let args = some_argument_sorts(alloc, reader)?;
+    let sort = sort_span(reader)?;
+    let first = reader.at();
+    some_attributes(reader)?;
+    let past = reader.at();
     reader.sign(Symbol::Semicolon)?;
     Ok(OpDecl {
         spelling,
         args,
         sort,
-        attributes: Span {
-            first: end,
-            past: end,
-        },
+        attributes: Span { first, past },
     })
 }
 
-/// Takes the name of an operator, with its holes.
-#[tactic(auto, unfolding(crate::specs::Grammar::spelling, crate::specs::Grammar::holes))]
+/// Takes the spelling of an operator.
+#[tactic(auto, unfolding(crate::specs::Grammar::spelling))]
 fn spelling(reader: &mut Reader<'_>) -> Result<Span, Halt>
     ensures read { Reads grammar.spelling reader.old result reader.new }
     ensures shorter { IfOk result (λ _. length reader.new.rest < length reader.old.rest) }
 {
     let first = reader.at();
-    reader.name()?;
-    if reader.sees(Symbol::LeftRound) {
-        holes(reader)?;
-    }
+    let fits = reader.sees_spelled();
+    reader.skip(fits)?;
+    more_spelled(reader)?;
     Ok(Span {
         first,
         past: reader.at(),
     })
 }
 
-/// Takes one or more holes in parentheses.
-#[tactic(auto, unfolding(crate::specs::Grammar::holes))]
-fn holes(reader: &mut Reader<'_>) -> Result<(), Halt>
-    ensures read { Reads grammar.holes reader.old result reader.new }
-    ensures shorter { IfOk result (λ _. length reader.new.rest < length reader.old.rest) }
-{
-    reader.sign(Symbol::LeftRound)?;
-    reader.sign(Symbol::Hole)?;
-    more_holes(reader)?;
-    reader.sign(Symbol::RightRound)
-}
-
-/// Takes each further hole, behind its comma.
-#[tactic(auto, using(crate::proofs::Turns::more_holes_reads))]
-fn more_holes(reader: &mut Reader<'_>) -> Result<(), Halt>
-    ensures read { Reads grammar.more_holes reader.old result reader.new }
+/// Takes each further token of a spelling.
+#[tactic(auto, using(crate::proofs::Turns::more_spelled_reads))]
+fn more_spelled(reader: &mut Reader<'_>) -> Result<(), Halt>
+    ensures read { Reads grammar.more_spelled reader.old result reader.new }
     ensures no_longer { IfOk result (λ _. length reader.new.rest ≤ length reader.old.rest) }
 {
-    'holes: while reader.sees(Symbol::Comma) {
-        reader.sign(Symbol::Comma)?;
-        reader.sign(Symbol::Hole)?;
+    'tokens: while reader.sees_spelled() {
+        reader.skip(true)?;
     }
     Ok(())
 }
 
 /// Takes the sorts of the arguments in parentheses, where there are any.
-#[tactic(auto, unfolding(crate::specs::Grammar::arguments))]
-fn some_arguments(alloc: Global, reader: &mut Reader<'_>) -> Result<Items<Span>, Halt>
-    ensures read { Reads grammar.some_arguments reader.old result reader.new }
+#[tactic(auto, unfolding(crate::specs::Grammar::argument_sorts))]
+fn some_argument_sorts(alloc: Global, reader: &mut Reader<'_>) -> Result<Items<Span>, Halt>
+    ensures read { Reads grammar.some_argument_sorts reader.old result reader.new }
     ensures no_longer { IfOk result (λ _. length reader.new.rest ≤ length reader.old.rest) }
 {
     if reader.sees(Symbol::LeftRound) {
-        arguments(alloc, reader)
+        argument_sorts(alloc, reader)
     } else {
         Ok(Items::new(alloc))
     }
 }
 
-/// Takes one or more sorts in parentheses.
-#[tactic(auto, unfolding(crate::specs::Grammar::arguments))]
-fn arguments(alloc: Global, reader: &mut Reader<'_>) -> Result<Items<Span>, Halt>
-    ensures read { Reads grammar.arguments reader.old result reader.new }
+/// Takes the sorts of the arguments in parentheses, which may be none.
+#[tactic(auto, unfolding(crate::specs::Grammar::argument_sorts))]
+fn argument_sorts(alloc: Global, reader: &mut Reader<'_>) -> Result<Items<Span>, Halt>
+    ensures read { Reads grammar.argument_sorts reader.old result reader.new }
     ensures shorter { IfOk result (λ _. length reader.new.rest < length reader.old.rest) }
 {
     reader.sign(Symbol::LeftRound)?;
-    let sort = reader.name_span()?;
-    let first = pushed(Items::new(alloc), sort)?;
-    let found = more_sorts(reader, first)?;
+    let found = more_sorts(reader, Items::new(alloc))?;
     reader.sign(Symbol::RightRound)?;
     Ok(found)
 }

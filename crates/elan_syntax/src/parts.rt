@@ -1,13 +1,7 @@
 //! The parts of a text, as numbers of its tokens.
 
+use elan_phrases::Span;
 use sqlite_items::Items;
-
-/// The tokens from one number up to but not including another. Numbers count from 0.
-#[derive(Clone, Copy, Debug, PartialEq, Eq)]
-pub struct Span {
-    pub first: u32,
-    pub past: u32,
-}
 
 /// A whole text: its modules, the `LPL` text and the query.
 #[derive(Debug, Drop)]

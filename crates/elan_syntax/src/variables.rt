@@ -1,13 +1,11 @@
 //! Declarations of variables.
 
 ghost use Rattle.std.specs.Prelude.{◌≡◌, ◌<◌, ◌≤◌, length, IfOk};
-ghost use Rattle.elan_syntax.specs.Input.{Reads};
+ghost use Rattle.elan_phrases.specs.Input.{Reads};
 ghost use Rattle.elan_syntax.specs.Grammar as grammar;
 
-use crate::halt::{Halt, pushed};
 use crate::parts::Vars;
-use crate::reader::Reader;
-use crate::symbol::Symbol;
+use elan_phrases::{Halt, Reader, Symbol, pushed, sort_span};
 use sqlite_items::Items;
 use std::alloc::Global;
 
@@ -21,7 +19,7 @@ pub fn vars(alloc: Global, reader: &mut Reader<'_>) -> Result<Vars, Halt>
     let first = pushed(Items::new(alloc), first)?;
     let names = more_names(reader, first)?;
     reader.sign(Symbol::Colon)?;
-    let sort = reader.name_span()?;
+    let sort = sort_span(reader)?;
     reader.sign(Symbol::Semicolon)?;
     Ok(Vars { names, sort })
 }

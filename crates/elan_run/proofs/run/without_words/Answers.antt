@@ -1,4 +1,3 @@
-use Rattle.elan_text.specs.Streams.{IsAtEnd}
 use Rattle.elan_run.proofs.Leaving.{drained_told, past_told, if_made, leaves_finished, too_long_reported, too_long_undone}
 use Rattle.std.proofs.Common.{Err, ap, refl}
 use Rattle.elan_run.proofs.run.without_words.Goals as goal

@@ -1,5 +1,7 @@
-use Rattle.std.proofs.Common.{refl, arith}
-use Rattle.elan_syntax.proofs.ExactStreams.{outline_found, outline_only, outline_refused, refused_none, seen_count}
+use Rattle.std.proofs.Common.{arith}
+use Rattle.elan_syntax.specs.Grammar.{stream}
+use Rattle.elan_syntax.proofs.ExactStreams.{stream_gives}
+use Rattle.elan_syntax.proofs.Whole.{value_found, value_only, stop_refuses, stop_none}
 use Rattle.elan_syntax.proofs.entry.outline.Goals as goal
 
 pub returns-in-Ok-clause-found : goal.returns-in-Ok-clause-found
@@ -10,7 +12,7 @@ returns-in-Ok-clause-found c =
       c.as_slice.ensures.value,
       c.in_ok-lexemes.ensures.value,
     ) at c.in-Ok.ensures in
-    outline_found _ c.in-Ok.outline _ _ read
+    value_found stream stream_gives _ c.in-Ok.outline _ _ read
 
 pub returns-in-Ok-clause-only : goal.returns-in-Ok-clause-only
 returns-in-Ok-clause-only c =
@@ -20,19 +22,24 @@ returns-in-Ok-clause-only c =
       c.as_slice.ensures.value,
       c.in_ok-lexemes.ensures.value,
     ) at c.in-Ok.ensures in
-    outline_only _ c.in-Ok.outline _ _ read
+    value_only stream stream_gives _ c.in-Ok.outline _ _ read
 
-pub returns-in-Err-Misfit-clause-refused : goal.returns-in-Err-Misfit-clause-refused
-returns-in-Err-Misfit-clause-refused c =
-    let misfit = rw c.in-Err-Misfit.field-0-is at c.in-Err-Misfit.ensures in
+pub returns-clause-none : goal.returns-clause-none
+returns-clause-none c =
     let read = rw (
       c.new-reader.ensures.at,
       c.new-reader.ensures.rest,
       c.as_slice.ensures.value,
       c.in_ok-lexemes.ensures.value,
-    ) at (misfit refl) in
-    outline_refused _ c.in-Err-Misfit.why _ c.saturating_sub.result read
-    (omega (arith, seen_count c.args.bytes.now c.args.tokens.now, c.left.ensures, c.saturating_sub.ensures))
+    ) at c.in-Err.ensures in
+    rw (c.stop.ensures) (stop_none stream stream_gives _ _ _ _ c.in-Err.halt read (omega (arith, c.left.ensures)))
 
-pub returns-in-Err-Misfit-clause-none : goal.returns-in-Err-Misfit-clause-none
-returns-in-Err-Misfit-clause-none c = refused_none _ c.in-Err-Misfit.why _ (returns-in-Err-Misfit-clause-refused c)
+pub returns-clause-refused : goal.returns-clause-refused
+returns-clause-refused c =
+    let read = rw (
+      c.new-reader.ensures.at,
+      c.new-reader.ensures.rest,
+      c.as_slice.ensures.value,
+      c.in_ok-lexemes.ensures.value,
+    ) at c.in-Err.ensures in
+    rw (c.stop.ensures) (stop_refuses stream stream_gives _ _ _ _ c.in-Err.halt read (omega (arith, c.left.ensures)))

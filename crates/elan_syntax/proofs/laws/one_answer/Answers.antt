@@ -1,11 +1,13 @@
-use Rattle.elan_syntax.proofs.ExactStreams.{two_outlines, refused_none, two_refusals}
+use Rattle.elan_syntax.specs.Grammar.{stream}
+use Rattle.elan_syntax.proofs.ExactStreams.{stream_gives}
+use Rattle.elan_syntax.proofs.Whole.{two_values, value_refused, two_refusals}
 use Rattle.elan_syntax.proofs.laws.one_answer.Goals as goal
 
 pub returns-clause-outline : goal.returns-clause-outline
-returns-clause-outline c = two_outlines
+returns-clause-outline c = two_values stream stream_gives
 
 pub returns-clause-apart : goal.returns-clause-apart
-returns-clause-apart c = λ tokens outline why at is refused. refused_none tokens why at refused outline is
+returns-clause-apart c = value_refused stream stream_gives
 
 pub returns-clause-refusal : goal.returns-clause-refusal
-returns-clause-refusal c = two_refusals
+returns-clause-refusal c = two_refusals stream stream_gives

@@ -6,8 +6,8 @@ use Rattle.elan_syntax.proofs.operators.more_declared.Given as goal
 abbrev pub invariant-declarations : goal.invariant-declarations
 invariant-declarations l = record {
   no_longer : length l.reader.rest ≤ length l.fn.reader.rest;
-  same_rest : (grammar.more_declared []).read l.fn.reader.at l.fn.reader.rest ≡ (grammar.more_declared l.found).read
-      l.reader.at l.reader.rest;
+  same_rest : (grammar.more_declared []).read l.fn.reader.at l.fn.reader.rest ≡ (grammar.more_declared l.found).read l.reader.at
+      l.reader.rest;
 }
 
 -- each turn takes a token

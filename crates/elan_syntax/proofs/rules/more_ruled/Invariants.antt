@@ -6,8 +6,8 @@ use Rattle.elan_syntax.proofs.rules.more_ruled.Given as goal
 abbrev pub invariant-rules : goal.invariant-rules
 invariant-rules l = record {
   no_longer : length l.reader.rest ≤ length l.fn.reader.rest;
-  same_rest : (grammar.more_ruled l.fn.before).read l.fn.reader.at l.fn.reader.rest ≡
-      (grammar.more_ruled l.found).read l.reader.at l.reader.rest;
+  same_rest : (grammar.more_ruled l.fn.before).read l.fn.reader.at l.fn.reader.rest ≡ (grammar.more_ruled l.found).read l.reader.at
+      l.reader.rest;
 }
 
 -- each turn takes a token

@@ -6,8 +6,8 @@ use Rattle.elan_syntax.proofs.variables.more_names.Given as goal
 abbrev pub invariant-names : goal.invariant-names
 invariant-names l = record {
   no_longer : length l.reader.rest ≤ length l.fn.reader.rest;
-  same_rest : (grammar.more_names l.fn.before).read l.fn.reader.at l.fn.reader.rest ≡
-      (grammar.more_names l.found).read l.reader.at l.reader.rest;
+  same_rest : (grammar.more_names l.fn.before).read l.fn.reader.at l.fn.reader.rest ≡ (grammar.more_names l.found).read l.reader.at
+      l.reader.rest;
 }
 
 -- each turn takes a token

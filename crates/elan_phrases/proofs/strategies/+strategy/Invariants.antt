@@ -1,0 +1,60 @@
+use Rattle.std.proofs.Common.{◌≡◌, ◌≤◌, ◌+◌, ◌*◌}
+use Rattle.elan_phrases.specs.Strategies as grammar
+use Rattle.elan_phrases.proofs.strategies.+strategy.Given as goal
+
+-- each call takes a token first, or stands lower in this order
+abbrev pub decreases-strategy : goal.decreases-strategy
+decreases-strategy l = 8 * l.left + 6
+
+abbrev pub decreases-step : goal.decreases-step
+decreases-step l = 8 * l.left + 5
+
+abbrev pub decreases-all_of : goal.decreases-all_of
+decreases-all_of l = 8 * l.left + 4
+
+abbrev pub decreases-choice : goal.decreases-choice
+decreases-choice l = 8 * l.left + 4
+
+abbrev pub decreases-alternatives : goal.decreases-alternatives
+decreases-alternatives l = 8 * l.left + 4
+
+abbrev pub decreases-round : goal.decreases-round
+decreases-round l = 8 * l.left + 4
+
+abbrev pub decreases-normal : goal.decreases-normal
+decreases-normal l = 8 * l.left + 4
+
+abbrev pub decreases-inside : goal.decreases-inside
+decreases-inside l = 8 * l.left + 3
+
+abbrev pub decreases-arms : goal.decreases-arms
+decreases-arms l = 8 * l.left + 3
+
+abbrev pub decreases-more_arms : goal.decreases-more_arms
+decreases-more_arms l = 8 * l.left + 7
+
+abbrev pub decreases-more_steps : goal.decreases-more_steps
+decreases-more_steps l = 8 * l.left + 7
+
+-- what is left to read now is what was left to read at first, and no more tokens are left
+abbrev pub invariant-more_arms-arms : goal.invariant-more_arms-arms
+invariant-more_arms-arms l = record {
+  left : l.now ≤ l.fn.left;
+  same_rest :
+      (grammar.more_arms grammar.strategy l.fn.left).read l.fn.reader.at l.fn.reader.rest
+      ≡ (grammar.more_arms grammar.strategy l.now).read l.reader.at l.reader.rest;
+}
+
+abbrev pub decreases-more_arms-arms : goal.decreases-more_arms-arms
+decreases-more_arms-arms l = l.now
+
+abbrev pub invariant-more_steps-steps : goal.invariant-more_steps-steps
+invariant-more_steps-steps l = record {
+  left : l.now ≤ l.fn.left;
+  same_rest :
+      (grammar.more_steps grammar.strategy l.fn.left).read l.fn.reader.at l.fn.reader.rest
+      ≡ (grammar.more_steps grammar.strategy l.now).read l.reader.at l.reader.rest;
+}
+
+abbrev pub decreases-more_steps-steps : goal.decreases-more_steps-steps
+decreases-more_steps-steps l = l.now

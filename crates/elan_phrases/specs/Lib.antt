@@ -1,0 +1,7 @@
+pub mod Symbols
+pub mod Beginnings
+pub mod Tokens
+pub mod Texts
+pub mod SortExpressions
+pub mod Strategies
+pub mod Input

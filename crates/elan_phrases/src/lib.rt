@@ -1,0 +1,26 @@
+//! Phrases of a text: sort expressions, references, strategies and runs of tokens, with the reader that takes them.
+#![tactic(auto)]
+
+mod halt;
+pub mod laws;
+mod reader;
+mod referring;
+mod seeing;
+mod sort_expressions;
+mod span;
+mod strategies;
+mod symbol;
+#[cfg(test)]
+mod tests;
+mod texts;
+mod worth;
+
+pub use halt::{Halt, pushed};
+pub use reader::Reader;
+pub use referring::references;
+pub use seeing::lexemes;
+pub use sort_expressions::{closing_arguments, more_sorts, sort_span};
+pub use span::Span;
+pub use strategies::{some_strategy, strategy_span};
+pub use symbol::{Importer, Lexeme, Symbol, is_unreserved};
+pub use texts::text;

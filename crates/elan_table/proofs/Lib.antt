@@ -1,3 +1,8 @@
 pub mod ShardLemmas
 pub mod Depths
-pub mod Parts
+pub mod Made
+pub mod Nodes
+pub mod Arguments
+pub mod Sorts
+pub mod OrderSteps
+pub mod Conditions

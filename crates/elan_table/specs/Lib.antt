@@ -1,2 +1,4 @@
+pub mod Applications
 pub mod Rows
+pub mod Nodes
 pub mod Shards

@@ -1,7 +1,12 @@
 //! Terms in numbered rows that threads share: rows of equal numbers mean equal terms.
 #![tactic(auto)]
 
+mod application;
+mod condition;
 mod name;
+mod node;
+mod order;
+mod row;
 mod rows;
 mod shard;
 mod table;
@@ -9,8 +14,10 @@ mod table;
 mod tests;
 
 pub use name::Name;
-pub use rows::{Blank, Rows, TermRef};
-pub use shard::{Made, Shard};
+pub use node::Node;
+pub use row::TermRef;
+pub use rows::{Blank, Rows};
+pub use shard::Shard;
 pub use table::Table;
 
 /// Memory ran out, as std says it.

@@ -1,20 +1,27 @@
 //! The rows of a table under its name.
-ghost use Rattle.std.specs.Prelude.{◌≡◌, ◌≤◌, ◌++◌, map, IfOk};
-ghost use Rattle.elan_terms.specs.Term as spec;
+ghost use Rattle.std.specs.Prelude.{◌≡◌, ◌++◌, ◌<◌, map, length, IfOk, IfSome, Some, slice_get};
+ghost use Rattle.elan_terms.specs.Trees.{app_term};
+ghost use Rattle.elan_shared.specs.Nodes.{arguments};
+ghost use Rattle.elan_table.specs.Rows.{MayStand, terms};
 
 use crate::NoMemory;
+use crate::application::Application;
 use crate::name::Name;
-use boxcar::{Pushed, Vec};
+use crate::row::TermRef;
+use boxcar::Vec;
 use elan_shared::SharedTerm;
+use elan_terms::Shapes;
 use sqlite_items::Items;
 use std::alloc::{AllocError, Global};
 use std::marker::{Model, PhantomData};
-use std::sync::Wait;
+use std::sync::{Arc, Wait};
 
-/// The shared list of rows. A row that was pushed stays as it is.
+/// The shared list of rows, and beside it the applications that were made. What was pushed stays.
 #[derive(Drop)]
 pub struct Rows<N: Name> {
     list: Vec<SharedTerm>,
+    made: Vec<Arc<Application<N>>>,
+    shapes: Shapes,
     of: PhantomData<N>,
 }
 
@@ -28,54 +35,66 @@ impl<N: Name> Model for Rows<N> {
 
     ghost view = { λ r. r.list };
 
-    ghost invariant = { λ r. r.list ≡ N.shelves };
-}
-
-/// A row. Contracts see its number and its term.
-#[derive(Drop)]
-pub struct TermRef<N: Name> {
-    pushed: Pushed<SharedTerm>,
-    of: PhantomData<N>,
-}
-
-impl<N: Name> Model for TermRef<N> {
-    ghost use Rattle.std.specs.Prelude.{◌≡◌, ◌≤◌};
-    ghost use Rattle.elan_terms.specs.declared.tree.Term.{Term};
-    ghost use Rattle.elan_terms.specs.contracts.tree.Term as term;
-    ghost use Rattle.elan_terms.specs.Term.{depth};
-    ghost use Rattle.std.specs.Coded.{codes};
-    ghost use Rattle.boxcar.specs.Table.{Where, where_coded, Shows};
-
-    ghost Value = { Where Term };
-
-    ghost coded = { where_coded (Prim.hlevel (codes, term.the_row.coded)) };
-
-    ghost view = { λ t. t.pushed };
-
-    ghost invariant = { λ t. Shows N.shelves t.pushed × (depth t.pushed.value ≤ 2000) };
+    ghost invariant = { λ r. (r.list ≡ N.shelves) × (r.shapes ≡ N.shapes) };
 }
 
 impl<N: Name> Rows<N> {
-    /// A row for this term.
-    pub fn push<R: Wait>(&self, rt: &R, term: SharedTerm) -> Result<TermRef<N>, NoMemory>
-        requires { spec.depth term ≤ 2000 }
+    /// A row for this term, whose arguments have no rows that are known.
+    pub(crate) fn push<R: Wait>(&self, rt: &R, term: SharedTerm) -> Result<TermRef<N>, NoMemory>
+        requires { MayStand N.shapes term }
         ensures { IfOk result (λ t. t.value ≡ term) }
     {
         match self.list.push_shown(rt, term) {
-            Ok(pushed) => Ok(TermRef {
-                pushed,
-                of: PhantomData,
-            }),
+            Ok(pushed) => Ok(TermRef::new(pushed, u64::MAX)),
+            Err(_) => Err(AllocError),
+        }
+    }
+
+    /// Adds an application to those that were made, and answers where it stands.
+    pub(crate) fn add<R: Wait>(
+        &self,
+        rt: &R,
+        application: Arc<Application<N>>,
+    ) -> Result<u64, NoMemory> {
+        match self.made.push(rt, application) {
+            Ok(at) => Ok(at as u64),
             Err(_) => Err(AllocError),
         }
     }
 
     /// What a row means.
     pub fn term(&self, row: &TermRef<N>) -> &SharedTerm
-        ensures value { result.now ≡ row.now.value }
-        ensures low { spec.depth row.now.value ≤ 2000 }
+        ensures { result.now ≡ row.now.value }
     {
-        self.list.value(&row.pushed)
+        self.list.value(row.pushed())
+    }
+
+    /// The application of a row, where it was made from the rows of its arguments.
+    pub(crate) fn application(&self, row: &TermRef<N>) -> Option<&Application<N>>
+        ensures { IfSome result (λ a. row.now.value ≡ app_term a.now.op (terms a.now.args)) }
+    {
+        match self.made.get(row.place() as usize) {
+            None => None,
+            Some(made) => self.if_own(made, row),
+        }
+    }
+
+    fn if_own<'a>(&self, made: &'a Application<N>, row: &TermRef<N>) -> Option<&'a Application<N>>
+        ensures { IfSome result (λ a. row.now.value ≡ app_term a.now.op (terms a.now.args)) }
+    {
+        if made.own().number() == row.number() {
+            self.agrees(made.own(), row);
+            Some(made)
+        } else {
+            None
+        }
+    }
+
+    /// The operators of the terms.
+    pub fn shapes(&self) -> &Shapes
+        ensures { result.now ≡ N.shapes }
+    {
+        &self.shapes
     }
 
     /// Two rows of one number mean one term.
@@ -83,13 +102,13 @@ impl<N: Name> Rows<N> {
         requires { a.now.index ≡ b.now.index }
         ensures { a.now.value ≡ b.now.value }
     {
-        self.list.agrees(&a.pushed, &b.pushed);
+        self.list.agrees(a.pushed(), b.pushed());
     }
 
     /// Rows of equal numbers mean equal terms.
-    pub fn agree_all(&self, some: &[TermRef<N>], others: &[TermRef<N>])
+    pub(crate) fn agree_all(&self, some: &[TermRef<N>], others: &[TermRef<N>])
         requires { map (λ t. t.index) some.now ≡ map (λ t. t.index) others.now }
-        ensures { map (λ t. t.value) some.now ≡ map (λ t. t.value) others.now }
+        ensures { terms some.now ≡ terms others.now }
     {
         match some {
             [] => {}
@@ -104,12 +123,12 @@ impl<N: Name> Rows<N> {
     }
 
     /// Puts what the rows mean to the end, in order.
-    pub fn terms_onto(
+    pub(crate) fn terms_onto(
         &self,
         out: &mut Items<SharedTerm>,
         rows: &[TermRef<N>],
     ) -> Result<(), NoMemory>
-        ensures { IfOk result (λ _. out.new ≡ out.old ++ map (λ t. t.value) rows.now) }
+        ensures { IfOk result (λ _. out.new ≡ out.old ++ terms rows.now) }
     {
         match rows {
             [] => Ok(()),
@@ -119,58 +138,78 @@ impl<N: Name> Rows<N> {
             }
         }
     }
-}
 
-impl<N: Name> TermRef<N> {
-    /// The number of the row. Rows of one table with equal numbers mean equal terms.
-    pub fn number(&self) -> u64
-        ensures { result ≡ self.now.index }
+    /// A row of the argument at that place.
+    pub(crate) fn arg<R: Wait>(
+        &self,
+        rt: &R,
+        row: &TermRef<N>,
+        place: u64,
+    ) -> Result<TermRef<N>, NoMemory>
+        requires { place < length (arguments row.now.value) }
+        ensures { IfOk result (λ t. slice_get (arguments row.now.value) place ≡ Some t.value) }
     {
-        self.pushed.index() as u64
+        match self.application(row) {
+            None => self.new_arg(rt, row, place),
+            Some(application) => Ok(application.arg(place)),
+        }
     }
 
-    /// The same row.
-    pub fn again(&self) -> TermRef<N>
-        ensures { result ≡ self.now }
+    /// A new row of the argument at that place.
+    #[tactic(auto, using(crate::proofs::Arguments::stands))]
+    fn new_arg<R: Wait>(&self, rt: &R, row: &TermRef<N>, place: u64) -> Result<TermRef<N>, NoMemory>
+        requires { place < length (arguments row.now.value) }
+        ensures { IfOk result (λ t. slice_get (arguments row.now.value) place ≡ Some t.value) }
     {
-        TermRef {
-            pushed: self.pushed.again(),
-            of: PhantomData,
+        row.known();
+        match self.term(row).arg(place as usize) {
+            None => unreachable!(),
+            Some(arg) => self.push(rt, arg.again()?),
         }
     }
 }
 
-/// Rows that have no name yet.
+/// Rows that have no name yet: there is none. Contracts see the list and the operators.
 #[derive(Drop)]
 pub struct Blank {
     list: Vec<SharedTerm>,
+    shapes: Shapes,
 }
 
 impl Model for Blank {
+    ghost use Rattle.std.specs.Coded.{codes};
+    ghost use base.Stored.{coded×};
     ghost use Rattle.boxcar.specs.Table.{Shelves, shelves_coded};
+    ghost use Rattle.elan_terms.specs.declared.tree.Shapes.{Shapes};
+    ghost use Rattle.elan_terms.specs.contracts.tree.Shapes as operators;
 
-    ghost Value = { Shelves };
+    ghost Value = { Shelves × Shapes };
 
-    ghost coded = { shelves_coded };
+    ghost coded = { coded× shelves_coded (Prim.hlevel (codes, operators.the_row.coded)) };
 
-    ghost view = { λ r. r.list };
+    ghost view = { λ r. (r.list, r.shapes) };
 }
 
 impl Blank {
-    /// No row.
-    pub fn new(alloc: Global) -> Result<Blank, NoMemory> {
+    /// No row, for terms over these operators.
+    pub fn new(alloc: Global, shapes: Shapes) -> Result<Blank, NoMemory>
+        ensures { IfOk result (λ b. b.1 ≡ shapes) }
+    {
         Ok(Blank {
             list: Vec::new(alloc)?,
+            shapes,
         })
     }
 
     /// The rows under the name that stands for them.
-    pub fn named<N: Name>(self) -> Rows<N>
-        requires { self ≡ N.shelves }
+    pub fn named<N: Name>(self, alloc: Global) -> Result<Rows<N>, NoMemory>
+        requires { self ≡ (N.shelves, N.shapes) }
     {
-        Rows {
+        Ok(Rows {
             list: self.list,
+            made: Vec::new(alloc)?,
+            shapes: self.shapes,
             of: PhantomData,
-        }
+        })
     }
 }

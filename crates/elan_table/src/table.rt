@@ -1,14 +1,19 @@
 //! The table: rows, and shards behind locks.
-ghost use Rattle.std.specs.Prelude.{◌≡◌, ◌<◌, ◌↔◌, map, length, All, IsTrue, IfOk, slice_get, Some};
+ghost use Rattle.std.specs.Prelude.{◌≡◌, ◌<◌, ◌↔◌, length, IsTrue, IfOk, slice_get, Some};
 ghost use Rattle.elan_terms.specs.Trees.{app_term, int_term};
 ghost use Rattle.elan_terms.specs.Term as spec;
-ghost use Rattle.elan_shared.specs.Nodes.{told};
+ghost use Rattle.elan_laws.specs.Valid.{IsNumber, IsAllowed};
+ghost use Rattle.elan_shared.specs.Nodes.{arguments};
+ghost use Rattle.elan_table.specs.Rows.{terms};
+ghost use Rattle.elan_table.specs.Nodes.{MayMake, node_of};
 
 use crate::NoMemory;
 use crate::name::Name;
-use crate::rows::{Blank, Rows, TermRef};
+use crate::node::Node;
+use crate::row::TermRef;
+use crate::rows::Rows;
 use crate::shard::Shard;
-use elan_shared::{Node, SharedTerm, compare, to_owned};
+use elan_shared::to_owned;
 use elan_terms::{OpId, Shapes, Term};
 use std::alloc::Global;
 use std::cmp::Ordering;
@@ -18,90 +23,135 @@ use std::sync::{Mutex, Wait};
 #[derive(Drop)]
 pub struct Table<N: Name> {
     rows: Rows<N>,
-    shapes: Shapes,
     shards: Vec<Mutex<Shard<N>>>,
     alloc: Global,
     ghost many: { length shards.items ≡ 64 },
 }
 
 impl<N: Name> Table<N> {
-    /// A table without rows, with 64 shards behind locks.
-    pub fn new(alloc: Global, rows: Blank, shapes: Shapes) -> Result<Table<N>, NoMemory>
-        requires { rows ≡ N.shelves }
-        ensures { IfOk result (λ t. t.shapes ≡ shapes) }
-    {
+    /// A table over these rows, with 64 shards behind locks. It serves the operators that the rows
+    /// were made with.
+    pub fn new(alloc: Global, rows: Rows<N>) -> Result<Table<N>, NoMemory> {
         let mut shards = Vec::new(alloc);
         while shards.len() < 64 {
             shards.push(Mutex::new(Shard::new(alloc)))?;
         }
         Ok(Table {
-            rows: rows.named::<N>(),
-            shapes,
+            rows,
             shards,
             alloc,
         })
     }
 
-    /// A row of the application. An equal one that was made in the same way before is found again.
+    /// A row of the integer; an equal one that was made before is found again. There is a sort of
+    /// integers, and the value is not `i64::MIN`. It may wait for a lock.
+    pub fn int<R: Wait>(&self, rt: &R, value: i64) -> Result<TermRef<N>, NoMemory>
+        requires { IsNumber N.shapes value }
+        ensures { IfOk result (λ t. t.value ≡ int_term value) }
+    {
+        let mut shard = self.shards[place_of(value.unsigned_abs())].lock(rt);
+        shard.int(rt, &self.rows, value)
+    }
+
+    /// A row of the application; an equal one that was made before of the same rows is found again.
+    /// The arguments fit the operator, the application is canonical, and each argument is less than
+    /// 2,000 deep. It may wait for a lock.
     pub fn intern<R: Wait>(
         &self,
         rt: &R,
         op: OpId,
         args: &[TermRef<N>],
     ) -> Result<TermRef<N>, NoMemory>
-        requires { All (λ t. spec.depth t.value < 2000) args.now }
-        ensures { IfOk result (λ t. t.value ≡ app_term op (map (λ t. t.value) args.now)) }
+        requires { MayMake N.shapes op (terms args.now) }
+        ensures { IfOk result (λ t. t.value ≡ app_term op (terms args.now)) }
     {
         let mut shard = self.shards[shard_of(op, args)].lock(rt);
         shard.intern(rt, self.alloc, &self.rows, op, args)
     }
 
-    /// A row of the integer.
-    #[tactic(auto, using(elan_terms::proofs::TermLemmas::depths))]
-    pub fn int<R: Wait>(&self, rt: &R, value: i64) -> Result<TermRef<N>, NoMemory>
-        ensures { IfOk result (λ t. t.value ≡ int_term value) }
+    /// Whether the table takes the integer.
+    pub fn takes_int(&self, value: i64) -> bool
+        ensures { IsTrue result ↔ IsNumber N.shapes value }
     {
-        self.rows.push(rt, SharedTerm::int(value))
+        value != i64::MIN && self.shapes().int.is_some()
     }
 
-    /// The integer, or the operator and the arguments.
-    pub fn node(&self, term: &TermRef<N>) -> Node<'_>
-        ensures { term.now.value ≡ told result }
+    /// Whether the terms of these rows fit the operator: it has so many arguments of these sorts, or
+    /// it is associative and commutative and there are at least two, all of its sort.
+    pub fn fits(&self, op: OpId, args: &[TermRef<N>]) -> bool
+        ensures { IsTrue result ↔ IsAllowed N.shapes op (terms args.now) }
     {
-        self.rows.term(term).node()
+        self.rows.is_allowed(op, args)
     }
 
-    /// Whether two rows mean one term.
-    pub fn equal(&self, a: &TermRef<N>, b: &TermRef<N>) -> bool
-        ensures { IsTrue result ↔ (a.now.value ≡ b.now.value) }
+    /// Whether the table takes the application of the operator to the terms of these rows: they fit
+    /// the operator, the application is canonical, and each of them is less than 2,000 deep.
+    pub fn takes(&self, op: OpId, args: &[TermRef<N>]) -> bool
+        ensures { IsTrue result ↔ MayMake N.shapes op (terms args.now) }
     {
-        if a.number() == b.number() {
-            self.rows.agrees(a, b);
-            true
-        } else {
-            elan_shared::is_equal(self.rows.term(a), self.rows.term(b))
+        self.rows.takes(op, args)
+    }
+
+    /// The integer, or the operator and the number of arguments.
+    pub fn node(&self, term: &TermRef<N>) -> Node
+        ensures { result ≡ node_of term.now.value }
+    {
+        match self.rows.term(term).node() {
+            elan_shared::Node::Int(value) => Node::Int(value),
+            elan_shared::Node::App(op, args) => Node::App(op, args.len() as u64),
         }
     }
 
-    /// The term order.
+    /// A row of the argument at that place, counted from 0: the one that the application was made
+    /// of, where it was interned.
+    pub fn arg<R: Wait>(
+        &self,
+        rt: &R,
+        term: &TermRef<N>,
+        place: u64,
+    ) -> Result<TermRef<N>, NoMemory>
+        requires { place < length (arguments term.now.value) }
+        ensures { IfOk result (λ t. slice_get (arguments term.now.value) place ≡ Some t.value) }
+    {
+        self.rows.arg(rt, term, place)
+    }
+
+    /// Rows of one number mean one term, whichever threads made them. The call does nothing.
+    pub fn agrees(&self, a: &TermRef<N>, b: &TermRef<N>)
+        requires { a.now.index ≡ b.now.index }
+        ensures { a.now.value ≡ b.now.value }
+    {
+        self.rows.agrees(a, b);
+    }
+
+    /// Whether two rows mean one term. It takes no memory.
+    #[tactic(auto, using(elan_shared::proofs::OrderLemmas::decides))]
+    pub fn equal(&self, a: &TermRef<N>, b: &TermRef<N>) -> bool
+        ensures { IsTrue result ↔ (a.now.value ≡ b.now.value) }
+    {
+        self.rows.compare(a, b).is_eq()
+    }
+
+    /// The term order. It takes no memory.
     pub fn compare(&self, a: &TermRef<N>, b: &TermRef<N>) -> Ordering
         ensures { result ≡ spec.order a.now.value b.now.value }
     {
-        compare(self.rows.term(a), self.rows.term(b))
+        self.rows.compare(a, b)
     }
 
-    /// The depth, at most 2000.
+    /// The depth, from 1 to 2,000. It takes no memory.
     pub fn depth(&self, term: &TermRef<N>) -> u32
         ensures { result ≡ spec.depth term.now.value }
     {
+        term.known();
         self.rows.term(term).depth() as u32
     }
 
-    /// The shapes that the table was made with.
+    /// The operators that the table was made for, and the sort of integers.
     pub fn shapes(&self) -> &Shapes
-        ensures { result.now ≡ self.now.shapes }
+        ensures { result.now ≡ N.shapes }
     {
-        &self.shapes
+        self.rows.shapes()
     }
 
     /// A copy with one owner.
@@ -112,12 +162,21 @@ impl<N: Name> Table<N> {
     }
 }
 
+// An odd number near 2^64 divided by the golden ratio: products with it differ in their high bits.
+const SPREAD: u64 = 0x9e37_79b9_7f4a_7c15;
+
+fn place_of(number: u64) -> usize
+    ensures { result < 64 }
+{
+    ((number.wrapping_mul(SPREAD) >> 32) % 64) as usize
+}
+
 fn shard_of<N: Name>(op: OpId, args: &[TermRef<N>]) -> usize
     ensures { result < 64 }
 {
     let mut mixed = u64::from(op.0);
     for arg in args {
-        mixed = mixed.wrapping_mul(0x9e37_79b9_7f4a_7c15) ^ arg.number();
+        mixed = mixed.wrapping_mul(SPREAD) ^ arg.number();
     }
-    (mixed % 64) as usize
+    place_of(mixed)
 }

@@ -1,0 +1,13 @@
+pub mod AskLemmas
+pub mod BeginLemmas
+pub mod Computed
+pub mod EntryLemmas
+pub mod FindLemmas
+pub mod FlattenLemmas
+pub mod LoadLemmas
+pub mod OpenedLemmas
+pub mod ReadingLemmas
+pub mod Rows
+pub mod SortLemmas
+pub mod VisitLemmas
+pub mod WalkLemmas

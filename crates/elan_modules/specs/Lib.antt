@@ -1,0 +1,10 @@
+pub mod Libraries
+pub mod Sorts
+pub mod Modules
+pub mod Finds
+pub mod Readings
+pub mod Openings
+pub mod Visits
+pub mod Walks
+pub mod Loads
+pub mod Flattens

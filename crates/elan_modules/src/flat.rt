@@ -1,0 +1,68 @@
+//! A program flattened to the list of its module instances.
+
+ghost use Rattle.std.specs.Prelude.{◌≡◌};
+ghost use Rattle.elan_modules.specs.declared.flat.FlattenRefusal.TheVariants.{NoMemory as OutOfMemory};
+
+use elan_lexer::Token;
+use elan_syntax::{LplOutline, ModuleOutline, Span};
+use elan_text::{Name, Refusal};
+use sqlite_items::Items;
+use std::alloc::AllocError;
+
+/// A text that was looked at, with its tokens and its modules.
+#[derive(Debug, Drop)]
+pub struct LoadedText {
+    /// The name that was asked for, or None for the stream.
+    pub module: Option<Name>,
+    pub bytes: Items<u8>,
+    pub tokens: Items<Token>,
+    pub modules: Items<ModuleOutline>,
+}
+
+/// Where the text of a module is.
+#[derive(Clone, Copy, Debug, PartialEq, Eq)]
+pub enum Origin {
+    /// It is built in and has none.
+    Builtin,
+    /// The number of the text, and of the module in it, both counted from 0.
+    Text { text: u32, module: u32 },
+}
+
+/// A module with the sorts that stand for its parameters.
+#[derive(Debug, Drop)]
+pub struct Instance {
+    pub name: Name,
+    /// Sorts in their whole written form, one for each parameter.
+    pub args: Items<Name>,
+    pub origin: Origin,
+}
+
+/// A flat program: each instance stands once, behind those that it imports.
+#[derive(Debug, Drop)]
+pub struct Flat {
+    /// The stream first, and then the texts that were loaded, in that order.
+    pub texts: Items<LoadedText>,
+    pub instances: Items<Instance>,
+    pub lpl: LplOutline,
+    /// The tokens of the query, in the stream.
+    pub query: Span,
+}
+
+/// Why a program was not flattened.
+#[derive(Debug, Drop)]
+pub enum FlattenRefusal {
+    /// A text is refused.
+    Refused(Refusal),
+    /// A loader failed.
+    LoaderFault,
+    /// The machine had no memory to give.
+    NoMemory,
+}
+
+impl From<AllocError> for FlattenRefusal {
+    ghost from_gives = { λ _ e. e ≡ OutOfMemory };
+
+    fn from(_: AllocError) -> FlattenRefusal {
+        FlattenRefusal::NoMemory
+    }
+}

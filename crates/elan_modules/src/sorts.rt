@@ -1,0 +1,202 @@
+//! Sort expressions by their tokens, and the sorts that stand for the parameters in them.
+
+ghost use Rattle.std.specs.Prelude.{◌≡◌, ◌≤◌, ◌<◌, ◌++◌, ◌+◌, ℕ, List, length, IfOk, OnOk, Some, slice_get, slice_range, map};
+ghost use Rattle.elan_lexer.specs.Text.{token_text};
+ghost use Rattle.elan_modules.specs.Sorts as spec;
+
+use crate::flat::LoadedText;
+use elan_lexer::Token;
+use elan_syntax::Span;
+use elan_text::{Name, NoMemory, Place};
+use sqlite_items::Items;
+use std::alloc::{AllocError, Global};
+
+/// The items from one number up to another, or those of them that there are.
+pub(crate) fn part<T>(items: &[T], first: usize, past: usize) -> &[T]
+    ensures { result.now ≡ slice_range items.now first past }
+{
+    let (_, rest) = items.split_at(first.min(items.len()));
+    let count = past.saturating_sub(first);
+    rest.split_at(count.min(rest.len())).0
+}
+
+/// The bytes of a token.
+pub(crate) fn word<'a>(bytes: &'a [u8], token: &Token) -> &'a [u8]
+    ensures { result.now ≡ token_text bytes.now token.now }
+{
+    part(bytes, token.start as usize, token.end as usize)
+}
+
+/// The bytes of the token of a number, or none where there is no such token.
+pub(crate) fn word_at(text: &LoadedText, number: u32) -> &[u8]
+    ensures { result.now ≡ spec.word_at text.now number }
+{
+    match text.tokens.get(number as usize) {
+        Some(token) => word(text.bytes.as_slice(), token),
+        None => &[],
+    }
+}
+
+/// The place of the token of a number, or that of the first byte where there is no such token.
+pub(crate) fn place_at(text: &LoadedText, number: u32) -> Place
+    ensures { result ≡ spec.place_at text.now number }
+{
+    match text.tokens.get(number as usize) {
+        Some(token) => token.at,
+        None => Place { line: 1, column: 1 },
+    }
+}
+
+/// Whether the first of these tokens is `[`.
+fn opens(bytes: &[u8], tokens: &[Token]) -> bool
+    ensures { result ≡ spec.opens (map (token_text bytes.now) tokens.now) }
+{
+    match tokens {
+        [token, ..] => word(bytes, token) == b"[".as_slice(),
+        [] => false,
+    }
+}
+
+/// The sort that stands for a word which is a parameter; another word stands for itself.
+#[tactic(auto, unfolding(crate::specs::Sorts::value_of))]
+fn value_of<'a>(parameters: &'a [Name], sorts: &'a [Name], word: &'a [u8]) -> &'a [u8]
+    ensures { result.now ≡ spec.value_of parameters.now sorts.now word.now }
+{
+    let (mut names, mut values) = (parameters, sorts);
+    'pairs: while let [parameter, others @ ..] = names {
+        let [sort, rest @ ..] = values else {
+            return word;
+        };
+        if parameter.as_bytes() == word {
+            return sort.as_bytes();
+        }
+        names = others;
+        values = rest;
+    }
+    word
+}
+
+/// The written form of the sort expression of a span, with the parameters replaced.
+pub(crate) fn written(
+    alloc: Global,
+    text: &LoadedText,
+    parameters: &[Name],
+    sorts: &[Name],
+    span: Span,
+) -> Result<Name, NoMemory>
+    ensures { IfOk result (λ name. name.bytes ≡ spec.written text.now parameters.now sorts.now span) }
+{
+    let tokens = part(
+        text.tokens.as_slice(),
+        span.first as usize,
+        span.past as usize,
+    );
+    let mut found = Vec::new(alloc);
+    write_words(&mut found, text.bytes.as_slice(), parameters, sorts, tokens)?;
+    Ok(Name {
+        bytes: Items::from_vec(found),
+    })
+}
+
+/// Puts the words of these tokens behind what is there, with the parameters replaced.
+#[tactic(auto, unfolding(crate::specs::Sorts::replaced))]
+fn write_words(
+    found: &mut Vec<u8>,
+    bytes: &[u8],
+    parameters: &[Name],
+    sorts: &[Name],
+    tokens: &[Token],
+) -> Result<(), NoMemory>
+    ensures { OnOk result (found.new.items ≡ found.old.items
+        ++ spec.replaced parameters.now sorts.now (map (token_text bytes.now) tokens.now)) }
+{
+    let mut left = tokens;
+    'words: while let [token, rest @ ..] = left {
+        let word = word(bytes, token);
+        if opens(bytes, rest) {
+            found.extend_from_slice(word)?;
+        } else {
+            found.extend_from_slice(value_of(parameters, sorts, word))?;
+        }
+        left = rest;
+    }
+    Ok(())
+}
+
+/// How many names a written form has.
+#[tactic(auto, unfolding(crate::specs::Sorts::names_in))]
+pub(crate) fn names_in(written: &[u8]) -> usize
+    ensures { result ≡ spec.names_in written.now }
+{
+    let mut count = 1;
+    let mut left = written;
+    'bytes: while let [byte, rest @ ..] = left {
+        if *byte == b'[' || *byte == b',' {
+            count += 1;
+        }
+        left = rest;
+    }
+    count
+}
+
+/// The arguments of a reference, in order.
+#[tactic(auto, using(crate::proofs::SortLemmas::drop_words))]
+pub(crate) fn argument_spans(
+    alloc: Global,
+    text: &LoadedText,
+    span: Span,
+) -> Result<Items<Span>, NoMemory>
+    ensures { IfOk result (λ spans. spans ≡ spec.argument_spans text.now span) }
+{
+    let tokens = part(
+        text.tokens.as_slice(),
+        span.first as usize,
+        span.past as usize,
+    );
+    let behind = part(tokens, 2, tokens.len());
+    let start = next(next(span.first)?)?;
+    arguments_from(alloc, text.bytes.as_slice(), start, behind)
+}
+
+/// The number after this one.
+fn next(number: u32) -> Result<u32, NoMemory>
+    ensures { IfOk result (λ n. n ≡ number + 1) }
+{
+    number.checked_add(1).ok_or(AllocError)
+}
+
+/// The arguments that stand from a token of this number on, up to the `]` that closes them.
+#[tactic(auto, unfolding(crate::specs::Sorts::arguments_from))]
+fn arguments_from(
+    alloc: Global,
+    bytes: &[u8],
+    start: u32,
+    tokens: &[Token],
+) -> Result<Items<Span>, NoMemory>
+    ensures { IfOk result (λ spans. spans
+        ≡ spec.arguments_from start start 0 (map (token_text bytes.now) tokens.now)) }
+{
+    let mut found = Items::new(alloc);
+    let mut at = start;
+    let mut first = start;
+    let mut depth = 0;
+    let mut left = tokens;
+    'words: while let [token, rest @ ..] = left {
+        let word = word(bytes, token);
+        if word == b"[".as_slice() {
+            depth = next(depth)?;
+        } else if word == b"]".as_slice() {
+            if depth == 0 {
+                found.push(Span { first, past: at })?;
+                return Ok(found);
+            }
+            depth -= 1;
+        } else if word == b",".as_slice() && depth == 0 {
+            found.push(Span { first, past: at })?;
+            first = next(at)?;
+        }
+        at = next(at)?;
+        left = rest;
+    }
+    Ok(found)
+}

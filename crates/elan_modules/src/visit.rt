@@ -1,0 +1,185 @@
+//! The visit of a reference: its instance is finished behind those that it imports.
+
+ghost use Rattle.std.specs.Prelude.{◌≡◌, ◌≤◌, ◌<◌, ◌+◌, ◌-◌, ◌++◌, ◌∷◌, [], true, false, length, nat_le, IfOk, OnOk};
+ghost use Rattle.std.specs.List.{list_any};
+ghost use Rattle.elan_modules.specs.Visits as spec;
+ghost use Rattle.elan_modules.specs.Walks.{Walks, Stays, Is, shelf};
+ghost use Rattle.elan_modules.specs.Loads.{become};
+
+use crate::Loader;
+use crate::begin::begin;
+use crate::flat::{FlattenRefusal, Instance, Origin};
+use crate::load::refused_at;
+use crate::modules::copy_name;
+use crate::walk::{Reference, Walk};
+use elan_text::{Code, Name, NoMemory};
+use sqlite_items::Items;
+use std::alloc::Global;
+
+/// How many instances there may be.
+const MOST_INSTANCES: usize = 256;
+
+/// Whether two lists of names are the same.
+fn same_names(one: &[Name], other: &[Name]) -> bool
+    ensures { result ≡ spec.same_names one.now other.now }
+{
+    let (mut left, mut right) = (one, other);
+    'names: while let [first, rest @ ..] = left {
+        let [second, others @ ..] = right else {
+            return false;
+        };
+        if first.as_bytes() != second.as_bytes() {
+            return false;
+        }
+        left = rest;
+        right = others;
+    }
+    right.is_empty()
+}
+
+/// Whether the name of a reference is on the path.
+fn is_on(path: &[Name], reference: &Reference) -> bool
+    ensures { result ≡ list_any (spec.is_named_by reference.now) path.now }
+{
+    match path {
+        [] => false,
+        [first, rest @ ..] => {
+            reference.name.as_bytes() == first.as_bytes() || is_on(rest, reference)
+        }
+    }
+}
+
+/// Whether the instance of a reference is among these.
+fn is_among(done: &[Instance], reference: &Reference) -> bool
+    ensures { result ≡ list_any (spec.is_instance reference.now) done.now }
+{
+    match done {
+        [] => false,
+        [first, rest @ ..] => is_instance(first, reference) || is_among(rest, reference),
+    }
+}
+
+/// Whether an instance is the one that a reference names.
+fn is_instance(instance: &Instance, reference: &Reference) -> bool
+    ensures { result ≡ spec.is_instance reference.now instance.now }
+{
+    reference.name.as_bytes() == instance.name.as_bytes()
+        && same_names(reference.args.as_slice(), instance.args.as_slice())
+}
+
+/// Whether so many instances on the path and finished are too many for one more.
+fn is_full(on_path: usize, done: usize) -> bool
+    ensures { result ≡ nat_le spec.most_instances (on_path + done) }
+{
+    on_path.saturating_add(done) >= MOST_INSTANCES
+}
+
+/// A path with a name behind it.
+fn extended(alloc: Global, path: &[Name], name: &Name) -> Result<Items<Name>, NoMemory>
+    ensures { IfOk result (λ longer. longer ≡ path.now ++ name.now ∷ []) }
+{
+    let mut longer = copied(alloc, path)?;
+    longer.push(copy_name(alloc, name)?)?;
+    Ok(longer)
+}
+
+/// A copy of names.
+fn copied(alloc: Global, names: &[Name]) -> Result<Items<Name>, NoMemory>
+    ensures { IfOk result (λ copy. copy ≡ names.now) }
+{
+    let mut copy = Items::new(alloc);
+    let mut left = names;
+    'names: while let [first, rest @ ..] = left {
+        copy.push(copy_name(alloc, first)?)?;
+        left = rest;
+    }
+    Ok(copy)
+}
+
+/// Appends the instance of a reference to those that are finished.
+fn finish(
+    alloc: Global,
+    walk: &mut Walk,
+    reference: &Reference,
+    origin: Origin,
+) -> Result<(), NoMemory>
+    ensures { OnOk result (walk.new ≡ spec.finished reference.now origin walk.old) }
+{
+    let name = copy_name(alloc, &reference.name)?;
+    let args = copied(alloc, reference.args.as_slice())?;
+    walk.done.push(Instance { name, args, origin })
+}
+
+/// Visits a reference on a path of names.
+#[cycle(visits)]
+pub(crate) fn visit<L: Loader>(
+    alloc: Global,
+    walk: &mut Walk,
+    loaders: &mut [L],
+    path: &[Name],
+    reference: &Reference,
+) -> Result<(), FlattenRefusal>
+    ensures { Walks (λ library. spec.visit (256 - length path.now) library path.now walk.old reference.now)
+        (shelf L.library L.misses L.failures loaders.old) (shelf L.library L.misses L.failures loaders.new)
+        (become walk.new) result }
+{
+    if is_on(path, reference) {
+        return Err(refused_at(alloc, Code::E08, reference));
+    }
+    if is_among(walk.done.as_slice(), reference) {
+        return Ok(());
+    }
+    if is_full(path.len(), walk.done.len()) {
+        return Err(refused_at(alloc, Code::E14, reference));
+    }
+    complete(alloc, walk, loaders, path, reference)
+}
+
+/// Begins the instance of a reference, visits what it imports and finishes it.
+#[cycle(visits)]
+fn complete<L: Loader>(
+    alloc: Global,
+    walk: &mut Walk,
+    loaders: &mut [L],
+    path: &[Name],
+    reference: &Reference,
+) -> Result<(), FlattenRefusal>
+    requires { length path.now < 256 }
+    ensures { Walks (λ library. spec.next (spec.begun library walk.old reference.now)
+        (spec.completed (spec.visit (256 - (length path.now + 1)) library) path.now reference.now))
+        (shelf L.library L.misses L.failures loaders.old) (shelf L.library L.misses L.failures loaders.new)
+        (become walk.new) result }
+{
+    let opening = begin(alloc, walk, loaders, reference)?;
+    let longer = extended(alloc, path, &reference.name)?;
+    visit_all(
+        alloc,
+        walk,
+        loaders,
+        longer.as_slice(),
+        opening.imports.as_slice(),
+    )?;
+    finish(alloc, walk, reference, opening.origin)?;
+    Ok(())
+}
+
+/// Visits references one after the other.
+#[cycle(visits)]
+pub(crate) fn visit_all<L: Loader>(
+    alloc: Global,
+    walk: &mut Walk,
+    loaders: &mut [L],
+    path: &[Name],
+    references: &[Reference],
+) -> Result<(), FlattenRefusal>
+    ensures { Walks (λ library. spec.visit_all (spec.visit (256 - length path.now) library) path.now walk.old references.now)
+        (shelf L.library L.misses L.failures loaders.old) (shelf L.library L.misses L.failures loaders.new)
+        (become walk.new) result }
+{
+    let mut left = references;
+    'references: while let [first, rest @ ..] = left {
+        visit(alloc, walk, loaders, path, first)?;
+        left = rest;
+    }
+    Ok(())
+}

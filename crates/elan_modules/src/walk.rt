@@ -1,0 +1,48 @@
+//! A walk through the imports: what was loaded and which instances were finished.
+
+use crate::flat::{Instance, LoadedText, Origin};
+use elan_text::{Name, Place};
+use sqlite_items::Items;
+
+/// How far a walk through the imports came.
+#[derive(Debug, Drop)]
+pub struct Walk {
+    /// The stream first, and then the texts that were loaded, in that order.
+    pub texts: Items<LoadedText>,
+    /// The instances that were finished, in that order.
+    pub done: Items<Instance>,
+}
+
+/// A reference to a module with its sort arguments.
+#[derive(Debug, Drop)]
+pub struct Reference {
+    pub name: Name,
+    /// Sorts in their whole written form.
+    pub args: Items<Name>,
+    /// The place of its first token.
+    pub at: Place,
+    /// The loaded module in whose text it stands, if it is not the stream's.
+    pub module: Option<Name>,
+}
+
+/// A module that is built in.
+#[derive(Clone, Copy, Debug, PartialEq, Eq)]
+pub enum Standard {
+    Bool,
+    Int,
+    Eq,
+}
+
+/// Where a module is: the number of its text, and of the module in it.
+#[derive(Clone, Copy, Debug)]
+pub struct Spot {
+    pub text: usize,
+    pub module: usize,
+}
+
+/// An instance that is begun: where its module is, and what that imports.
+#[derive(Debug, Drop)]
+pub struct Opening {
+    pub origin: Origin,
+    pub imports: Items<Reference>,
+}

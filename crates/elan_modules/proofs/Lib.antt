@@ -1,4 +1,3 @@
-pub mod AskLemmas
 pub mod BeginLemmas
 pub mod Computed
 pub mod EntryLemmas

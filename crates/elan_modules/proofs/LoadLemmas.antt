@@ -24,10 +24,10 @@ use Rattle.elan_lexer.specs.declared.token.Token.{Token}
 use Rattle.elan_modules.specs.declared.flat.LoadedText.{LoadedText}
 use Rattle.elan_modules.specs.declared.flat.FlattenRefusal.{FlattenRefusal}
 use Rattle.elan_modules.specs.declared.flat.FlattenRefusal.TheVariants.{Refused, LoaderFault, NoMemory}
-use Rattle.elan_modules.specs.declared.loader.Fetched.TheVariants as fetch
+use Rattle.elan_loaders.specs.declared.loader.Fetched.TheVariants as fetch
 use Rattle.elan_modules.specs.declared.walk.Walk.{Walk}
 use Rattle.elan_modules.specs.declared.walk.Reference.{Reference}
-use Rattle.elan_modules.specs.Libraries.{Told, Has, HasNone, Untold, first_told, AnswersAll, NoneHas, EachRose, SomeRose}
+use Rattle.elan_loaders.specs.Libraries.{Told, Has, HasNone, Untold, first_told, AnswersAll, NoneHas, EachRose, SomeRose}
 use Rattle.elan_modules.specs.Modules.{Found, Opened, outlined, cut, opened, is_name, is_word_byte}
 use Rattle.elan_modules.specs.Openings.{Opens}
 use Rattle.elan_modules.specs.Visits.{is_e06, Library, Halted, Refuses, Silent, most_bytes, total, with_text, loaded, fetched, refusal_at}

@@ -14,7 +14,7 @@ use Rattle.elan_syntax.specs.declared.parts.Outline.{Outline}
 use Rattle.elan_modules.specs.declared.flat.LoadedText.{LoadedText}
 use Rattle.elan_modules.specs.declared.flat.Origin.TheVariants.{Builtin, Text}
 use Rattle.elan_modules.specs.declared.flat.Instance.{Instance}
-use Rattle.elan_modules.specs.Libraries.{first_told, Library as Texts}
+use Rattle.elan_loaders.specs.Libraries.{first_told, Library as Texts}
 use Rattle.elan_modules.specs.Visits.{Library, Halted, Refuses, Silent, Walked, walked, stream_of}
 use Rattle.elan_modules.proofs.Computed.{computed}
 

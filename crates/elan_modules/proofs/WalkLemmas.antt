@@ -3,10 +3,10 @@ use Rattle.std.proofs.Common.{◌≡◌, ◌≤◌, ◌+◌, inl, inr, ℕ, Bool
 use Rattle.elan_text.specs.Streams.{Rose}
 use Rattle.elan_modules.specs.declared.flat.FlattenRefusal.{FlattenRefusal}
 use Rattle.elan_modules.specs.declared.flat.FlattenRefusal.TheVariants.{Refused, LoaderFault, NoMemory}
-use Rattle.elan_modules.specs.Libraries.{Library as Texts, EachRose, NoneFell, SomeRose, sum_of}
+use Rattle.elan_loaders.specs.Libraries.{Library as Texts, EachRose, NoneFell, SomeRose, sum_of}
 use Rattle.elan_modules.specs.Visits.{Library, Halted, Refuses, Silent, next}
 use Rattle.elan_modules.specs.Walks.{Shelf, IsSound, nothing, Comes, Moved, Untouched, is_fault, is_absent, is_silent, Lacks, Walks}
-use Rattle.elan_modules.proofs.AskLemmas.{none_fell}
+use Rattle.elan_loaders.proofs.AskLemmas.{none_fell}
 
 -- ---- counts
 

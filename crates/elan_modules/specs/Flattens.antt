@@ -3,7 +3,7 @@ use Rattle.std.specs.Prelude.{◌≡◌, List, [], ◌∷◌, Option, Some, None
 use Rattle.elan_modules.specs.declared.flat.Flat.{Flat}
 use Rattle.elan_modules.specs.declared.flat.FlattenRefusal.{FlattenRefusal}
 use Rattle.elan_modules.specs.declared.flat.FlattenRefusal.TheVariants.{Refused, LoaderFault, NoMemory}
-use Rattle.elan_modules.specs.Libraries.{Library as Texts}
+use Rattle.elan_loaders.specs.Libraries.{Library as Texts}
 use Rattle.elan_modules.specs.Visits.{Halted, Refuses}
 
 -- each loader tells its library

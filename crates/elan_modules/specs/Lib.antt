@@ -1,4 +1,3 @@
-pub mod Libraries
 pub mod Sorts
 pub mod Modules
 pub mod Finds

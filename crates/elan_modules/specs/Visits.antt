@@ -21,7 +21,7 @@ use Rattle.elan_modules.specs.declared.flat.Flat.{Flat}
 use Rattle.elan_modules.specs.declared.walk.Walk.{Walk}
 use Rattle.elan_modules.specs.declared.walk.Reference.{Reference}
 use Rattle.elan_modules.specs.declared.walk.Standard.{Standard}
-use Rattle.elan_modules.specs.Libraries.{Told, Has, HasNone, Untold}
+use Rattle.elan_loaders.specs.Libraries.{Told, Has, HasNone, Untold}
 use Rattle.elan_modules.specs.Sorts.{place_at}
 use Rattle.elan_modules.specs.Modules.{Found, find, name_of, standard_of, parameter_count, standard_imports, parameters_of, sort_spans, first_long, references_of, is_name, imports_of, refusal_in, Opened, opened}
 

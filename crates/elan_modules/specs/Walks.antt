@@ -5,7 +5,7 @@ use Rattle.elan_text.specs.declared.refusal.Refusal.{Refusal}
 use Rattle.elan_modules.specs.declared.flat.FlattenRefusal.{FlattenRefusal}
 use Rattle.elan_modules.specs.declared.flat.FlattenRefusal.TheVariants.{Refused, LoaderFault, NoMemory}
 use Rattle.elan_modules.specs.declared.walk.Reference.{Reference}
-use Rattle.elan_modules.specs.Libraries.{Library as Texts, Untold, first_told, NoneHas, EachRose, NoneFell, SomeRose}
+use Rattle.elan_loaders.specs.Libraries.{Library as Texts, Untold, first_told, NoneHas, EachRose, NoneFell, SomeRose}
 use Rattle.elan_modules.specs.Visits.{Library, Halted, Refuses, Silent, is_e06, refusal_at}
 
 -- what is known of a list of loaders: of each what it tells and its two counts

@@ -8,7 +8,6 @@ ghost use Rattle.elan_modules.specs.Finds.{Stands};
 ghost use Rattle.elan_modules.specs.Walks.{Walks, Stays, Is, shelf};
 ghost use Rattle.elan_modules.specs.Loads.{HasOne, walk_with, begun_with, itself};
 
-use crate::Loader;
 use crate::find::find;
 use crate::flat::{FlattenRefusal, LoadedText, Origin};
 use crate::load::{load, refused_at};
@@ -18,6 +17,7 @@ use crate::modules::{
 };
 use crate::opening::is_name;
 use crate::walk::{Opening, Reference, Spot, Standard, Walk};
+use elan_loaders::Loader;
 use elan_syntax::ModuleOutline;
 use elan_text::{Code, NoMemory, Place, Refusal};
 use sqlite_items::Items;

@@ -1,7 +1,8 @@
 //! Whole programs, whose instances and refusals were worked out by hand.
 
-use crate::{Flat, FlattenRefusal, Instance, Loader, MemoryLoader, Origin, flatten};
+use crate::{Flat, FlattenRefusal, Instance, Origin, flatten};
 use elan_lexer::tokens;
+use elan_loaders::{Loader, MemoryLoader};
 use elan_syntax::outline;
 use elan_text::{Name, Place, Refusal};
 use std::alloc::Global;

@@ -1,7 +1,6 @@
-//! Texts of modules from loaders, and a program flattened to the list of its module instances.
+//! A program flattened to the list of its module instances, with texts from loaders.
 #![tactic(auto)]
 
-mod ask;
 mod begin;
 mod copies;
 mod entry;
@@ -9,21 +8,13 @@ mod find;
 mod flat;
 #[cfg(test)]
 mod flattening;
-mod folder;
 pub mod laws;
 mod load;
-mod loader;
-mod memory;
 mod modules;
 mod opening;
 mod sorts;
-#[cfg(test)]
-mod tests;
 mod visit;
 mod walk;
 
 pub use entry::flatten;
 pub use flat::{Flat, FlattenRefusal, Instance, LoadedText, Origin};
-pub use folder::FolderLoader;
-pub use loader::{Fetched, Loader};
-pub use memory::MemoryLoader;

@@ -6,12 +6,11 @@ ghost use Rattle.elan_modules.specs.Visits as spec;
 ghost use Rattle.elan_modules.specs.Walks.{Walks, Stays, Is, shelf};
 ghost use Rattle.elan_modules.specs.Loads.{HasOne, walk_with};
 
-use crate::ask::ask_all;
 use crate::flat::{FlattenRefusal, LoadedText};
 use crate::modules::{copy_name, copy_owner};
 use crate::opening::open;
 use crate::walk::{Reference, Walk};
-use crate::{Fetched, Loader};
+use elan_loaders::{Fetched, Loader, ask_all};
 use elan_text::{Code, Name, Place, Refusal};
 use std::alloc::Global;
 

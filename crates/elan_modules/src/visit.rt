@@ -6,12 +6,12 @@ ghost use Rattle.elan_modules.specs.Visits as spec;
 ghost use Rattle.elan_modules.specs.Walks.{Walks, Stays, Is, shelf};
 ghost use Rattle.elan_modules.specs.Loads.{become};
 
-use crate::Loader;
 use crate::begin::begin;
 use crate::flat::{FlattenRefusal, Instance, Origin};
 use crate::load::refused_at;
 use crate::modules::copy_name;
 use crate::walk::{Reference, Walk};
+use elan_loaders::Loader;
 use elan_text::{Code, Name, NoMemory};
 use sqlite_items::Items;
 use std::alloc::Global;

@@ -1,5 +1,5 @@
 use Rattle.std.proofs.Common.{length}
-use Rattle.elan_modules.proofs.ask.+ask_all.Given as goal
+use Rattle.elan_loaders.proofs.ask.+ask_all.Given as goal
 
 abbrev pub decreases-ask_all : goal.decreases-ask_all
 decreases-ask_all g l = length l.loaders.now

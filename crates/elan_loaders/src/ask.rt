@@ -2,8 +2,8 @@
 
 ghost use Rattle.std.specs.Prelude.{◌≡◌, ◌≤◌, ◌<◌, ℕ, length, map};
 ghost use Rattle.elan_text.specs.Streams.{Rose};
-ghost use Rattle.elan_modules.specs.Libraries.{Answers, AnswersAll, NoneHas, EachRose, NoneFell, SomeRose, first_told};
-ghost use Rattle.elan_modules.specs.declared.loader.Fetched.TheVariants.{Absent, Failed};
+ghost use Rattle.elan_loaders.specs.Libraries.{Answers, AnswersAll, NoneHas, EachRose, NoneFell, SomeRose, first_told};
+ghost use Rattle.elan_loaders.specs.declared.loader.Fetched.TheVariants.{Absent, Failed};
 
 use crate::{Fetched, Loader};
 
@@ -28,7 +28,7 @@ impl Loader for Box<dyn Loader> {
 }
 
 /// Asks loaders in order for the text of a name, up to the first one that does not answer that it has none.
-pub(crate) fn ask_all<L: Loader>(loaders: &mut [L], name: &str, into: &mut Vec<u8>) -> Fetched
+pub fn ask_all<L: Loader>(loaders: &mut [L], name: &str, into: &mut Vec<u8>) -> Fetched
     ensures answers { AnswersAll (first_told (map L.library loaders.old) name.now)
         result into.old.items into.new.items }
     ensures libraries { map L.library loaders.new ≡ map L.library loaders.old }

@@ -2,8 +2,8 @@
 
 ghost use Rattle.std.specs.Prelude.{◌≡◌, ◌≤◌, ℕ, Option};
 ghost use Rattle.elan_text.specs.Streams.{Rose};
-ghost use Rattle.elan_modules.specs.Libraries.{Library, Answers};
-ghost use Rattle.elan_modules.specs.declared.loader.Fetched.TheVariants.{Absent, Failed};
+ghost use Rattle.elan_loaders.specs.Libraries.{Library, Answers};
+ghost use Rattle.elan_loaders.specs.declared.loader.Fetched.TheVariants.{Absent, Failed};
 
 /// What one fetch of a text answers.
 #[derive(Clone, Copy, Debug, PartialEq, Eq)]

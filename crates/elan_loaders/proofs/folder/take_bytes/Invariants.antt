@@ -1,5 +1,5 @@
 use Rattle.std.specs.Io.{StartsWith}
-use Rattle.elan_modules.proofs.folder.take_bytes.Given as goal
+use Rattle.elan_loaders.proofs.folder.take_bytes.Given as goal
 
 -- what was in the buffer stands in front
 abbrev pub invariant-reads : goal.invariant-reads

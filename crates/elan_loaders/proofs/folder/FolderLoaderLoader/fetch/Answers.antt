@@ -1,6 +1,6 @@
 use Rattle.std.proofs.Common.{◌≡◌, sym, ◌∙◌, ap, ◌++◌, drop, length}
 use Rattle.std.proofs.lemmas.List.{take-append-drop}
-use Rattle.elan_modules.proofs.folder.FolderLoaderLoader.fetch.Goals as goal
+use Rattle.elan_loaders.proofs.folder.FolderLoaderLoader.fetch.Goals as goal
 
 pub returns-in-Found-clause-answers : goal.returns-in-Found-clause-answers
 returns-in-Found-clause-answers g c =

@@ -1,8 +1,8 @@
 -- What one fetch of a loader does.
 use Rattle.std.specs.Prelude.{◌≡◌, ℕ, ◌≤◌, ◌<◌, ◌+◌, ◌⊎◌, Option, Some, None, List, [], ◌∷◌, ◌++◌}
 use Rattle.elan_text.specs.Streams.{Rose}
-use Rattle.elan_modules.specs.declared.loader.Fetched.{Fetched}
-use Rattle.elan_modules.specs.declared.loader.Fetched.TheVariants.{Found, Absent, Failed, NoMemory}
+use Rattle.elan_loaders.specs.declared.loader.Fetched.{Fetched}
+use Rattle.elan_loaders.specs.declared.loader.Fetched.TheVariants.{Found, Absent, Failed, NoMemory}
 
 -- the texts by their names
 abbrev pub Library : Type 0

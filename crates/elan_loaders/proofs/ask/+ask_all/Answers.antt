@@ -1,6 +1,6 @@
 use Rattle.std.proofs.Common.{◌≡◌, ◌∷◌, map, [], ap, refl}
-use Rattle.elan_modules.proofs.AskLemmas.{first_answers, first_absent, none_fell, first_rose, later_rose, no_items}
-use Rattle.elan_modules.proofs.ask.+ask_all.Goals as goal
+use Rattle.elan_loaders.proofs.AskLemmas.{first_answers, first_absent, none_fell, first_rose, later_rose, no_items}
+use Rattle.elan_loaders.proofs.ask.+ask_all.Goals as goal
 
 pub returns-in_default-clause-answers : goal.returns-in_default-clause-answers
 returns-in_default-clause-answers g t c =

@@ -1,9 +1,9 @@
 -- What a list of loaders answers, from what the first one answers.
 use Rattle.std.proofs.Common.{◌≡◌, ◌≢◌, ◌≤◌, ◌<◌, ◌+◌, inl, inr, ℕ, List, [], ◌∷◌, ◌++◌, Option, Some, None, refl, arith, length, ap, ◌∙◌, subst}
 use Rattle.elan_text.specs.Streams.{Rose}
-use Rattle.elan_modules.specs.declared.loader.Fetched.{Fetched}
-use Rattle.elan_modules.specs.declared.loader.Fetched.TheVariants.{Found, Absent, Failed, NoMemory}
-use Rattle.elan_modules.specs.Libraries.{Library, Answers, AnswersAll, first_told, SomeRose, NoneFell, sum_of}
+use Rattle.elan_loaders.specs.declared.loader.Fetched.{Fetched}
+use Rattle.elan_loaders.specs.declared.loader.Fetched.TheVariants.{Found, Absent, Failed, NoMemory}
+use Rattle.elan_loaders.specs.Libraries.{Library, Answers, AnswersAll, first_told, SomeRose, NoneFell, sum_of}
 
 -- the first one decides, unless it has no text
 pub first_answers : (told : Option Library) (others : List (Option Library)) (name : List ℕ) (answer : Fetched) (before after : List ℕ)

@@ -14,8 +14,10 @@ pub fn finish<'p, B: Branch, N: Name, R: Wait + Sync>(
     rt: &R,
     mut tree: Tree<'p, B, N>,
 ) -> Result<Vec<B::Item>, NoMemory>
-    ensures first { IfOk result (λ v. map B.sense.means v.items ≡ take tree.entry.limit (whole B.sense tree.entry)) }
-    ensures kin { IfOk result (λ v. ItemsOfKin B.sense (B.sense.kin tree.entry.root.value) v.items) }
+    ensures first { IfOk result (λ v. map B.sense.means v.items
+        ≡ take tree.entry.limit (whole B.sense tree.entry)) }
+    ensures kin { IfOk result (λ v. ItemsOfKin B.sense
+        (B.sense.kin tree.entry.root.value) v.items) }
 {
     let _sound = tree.is_over();
     for _ in rt.forever() {

@@ -18,7 +18,8 @@ pub fn reduce(op: Builtin, args: &[Operand], same: bool) -> Option<Reduced>
     ensures value { result ≡ spec.value_of op args.now same }
 
     // For the terms that the operands stand for it is the value that a program's meaning has.
-    ensures terms { (truth : Option TruthValue) (ts : List TermValue) → StandFor truth args.now ts → TellsSame same ts →
+    ensures terms { (truth : Option TruthValue) (ts : List TermValue)
+        → StandFor truth args.now ts → TellsSame same ts →
         value_by truth (Some op) ts ≡ term_of truth result }
 {
     value(op, args, same)

@@ -10,7 +10,8 @@ ghost use Rattle.elan_lexer.specs.Text.{Fits, IsInside, Refuses};
 
 /// A text has no two answers.
 pub fn one_answer()
-    ensures apart { (bytes : List ℕ) (found : List TokenValue) (code : CodeValue) (at : PlaceValue) →
+    ensures apart { (bytes : List ℕ) (found : List TokenValue)
+        (code : CodeValue) (at : PlaceValue) →
         Fits bytes found → Refuses bytes code at → ⊥ }
     ensures tokens { (bytes : List ℕ) (one two : List TokenValue) →
         Fits bytes one → Fits bytes two → one ≡ two }
@@ -26,8 +27,10 @@ pub fn some_answer()
 
 /// The tokens of a text lie inside it, and there are no more of them than bytes.
 pub fn tokens_inside()
-    ensures within { (bytes : List ℕ) (found : List TokenValue) → Fits bytes found → All (λ t. IsInside bytes t) found }
-    ensures count { (bytes : List ℕ) (found : List TokenValue) → Fits bytes found → length found ≤ length bytes }
+    ensures within { (bytes : List ℕ) (found : List TokenValue) → Fits bytes found
+        → All (λ t. IsInside bytes t) found }
+    ensures count { (bytes : List ℕ) (found : List TokenValue) → Fits bytes found
+        → length found ≤ length bytes }
 {}
 
 /// A list is the tokens of a text exactly where its spans stand in order, each the longest token at its place, and

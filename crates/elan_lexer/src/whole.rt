@@ -22,7 +22,8 @@ pub fn tokens(alloc: Global, bytes: &[u8]) -> Result<Vec<Token>, Stop>
     requires { length bytes.now ≤ 4194304 }
     // What is found are the tokens of the text, and no other list is.
     ensures found { IfOk result (λ v. Fits bytes.now v.items) }
-    ensures only { IfOk result (λ v. (others : List Token) → Fits bytes.now others → others ≡ v.items) }
+    ensures only { IfOk result (λ v. (others : List Token)
+        → Fits bytes.now others → others ≡ v.items) }
     ensures within { IfOk result (λ v. All (λ t. IsInside bytes.now t) v.items) }
     ensures count { IfOk result (λ v. length v.items ≤ length bytes.now) }
     // A refusal stands at the first place that nothing begins at.

@@ -33,8 +33,10 @@ pub fn ask_all<L: Loader>(loaders: &mut [L], name: &str, into: &mut Vec<u8>) -> 
         result into.old.items into.new.items }
     ensures libraries { map L.library loaders.new ≡ map L.library loaders.old }
     ensures none { result ≡ Absent → NoneHas (map L.library loaders.old) name.now }
-    ensures absent { result ≡ Absent → EachRose (map L.misses loaders.old) (map L.misses loaders.new) }
-    ensures failed { result ≡ Failed → SomeRose (map L.failures loaders.old) (map L.failures loaders.new) }
+    ensures absent { result ≡ Absent → EachRose (map L.misses loaders.old)
+        (map L.misses loaders.new) }
+    ensures failed { result ≡ Failed → SomeRose (map L.failures loaders.old)
+        (map L.failures loaders.new) }
     ensures misses { NoneFell (map L.misses loaders.old) (map L.misses loaders.new) }
     ensures failures { NoneFell (map L.failures loaders.old) (map L.failures loaders.new) }
 {

@@ -63,7 +63,8 @@ impl MemoryLoader {
 impl Loader for MemoryLoader {
     ghost use Rattle.std.specs.BTreeMap.{get_by_text};
 
-    ghost library = { λ loader. Some (λ name. option_map (λ text. text.items) (get_by_text loader.texts name)) };
+    ghost library = { λ loader. Some (λ name.
+        option_map (λ text. text.items) (get_by_text loader.texts name)) };
 
     ghost misses = { λ loader. loader.absences };
 

@@ -94,7 +94,8 @@ fn begin_standard(
     reference: &Reference,
     standard: Standard,
 ) -> Result<Opening, FlattenRefusal>
-    ensures { Stays (begun_with walk.now) result (spec.begun_standard walk.now reference.now standard) }
+    ensures { Stays (begun_with walk.now) result
+        (spec.begun_standard walk.now reference.now standard) }
 {
     let imports = built_imports(alloc, reference, standard)?;
     Ok(Opening {
@@ -134,7 +135,8 @@ fn begin_loaded<L: Loader>(
     reference: &Reference,
 ) -> Result<Opening, FlattenRefusal>
     requires { modules.is_name reference.now.name.bytes ≡ true }
-    ensures { Walks (λ library. spec.next (spec.fetched walk.old reference.now (library reference.now.name.bytes))
+    ensures { Walks (λ library. spec.next
+        (spec.fetched walk.old reference.now (library reference.now.name.bytes))
         (spec.begun_text reference.now))
         (shelf L.library L.misses L.failures loaders.old) (shelf L.library L.misses L.failures loaders.new)
         (begun_with walk.new) result }

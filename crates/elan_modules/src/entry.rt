@@ -45,14 +45,19 @@ pub fn flatten(
     // Why a loader's fault and a missing module are answered.
     ensures fault { is_fault result ≡ true
         → SomeRose (map (λ l. failures l) loaders.old.items) (map (λ l. failures l) loaders.new.items) }
-    ensures needed { is_fault result ≡ true → spec.needs_loaders bytes.now tokens.now outline.now ≡ true }
+    ensures needed { is_fault result ≡ true
+        → spec.needs_loaders bytes.now tokens.now outline.now ≡ true }
     ensures absent { is_absent result ≡ true
         → EachRose (map (λ l. misses l) loaders.old.items) (map (λ l. misses l) loaders.new.items) }
-    ensures lacking { is_absent result ≡ true → Lacks (map (λ l. library l) loaders.old.items) result }
+    ensures lacking { is_absent result ≡ true
+        → Lacks (map (λ l. library l) loaders.old.items) result }
     // What becomes of the loaders.
-    ensures libraries { map (λ l. library l) loaders.new.items ≡ map (λ l. library l) loaders.old.items }
-    ensures misses { NoneFell (map (λ l. misses l) loaders.old.items) (map (λ l. misses l) loaders.new.items) }
-    ensures failures { NoneFell (map (λ l. failures l) loaders.old.items) (map (λ l. failures l) loaders.new.items) }
+    ensures libraries { map (λ l. library l) loaders.new.items
+        ≡ map (λ l. library l) loaders.old.items }
+    ensures misses { NoneFell (map (λ l. misses l) loaders.old.items)
+        (map (λ l. misses l) loaders.new.items) }
+    ensures failures { NoneFell (map (λ l. failures l) loaders.old.items)
+        (map (λ l. failures l) loaders.new.items) }
     ensures untouched { spec.needs_loaders bytes.now tokens.now outline.now ≡ false
         → (map (λ l. misses l) loaders.new.items ≡ map (λ l. misses l) loaders.old.items)
         × (map (λ l. failures l) loaders.new.items ≡ map (λ l. failures l) loaders.old.items) }
@@ -125,7 +130,8 @@ fn asked(
     stream: &LoadedText,
     outline: &Outline,
 ) -> Result<Items<Reference>, NoMemory>
-    ensures { IfOk result (λ found. found ≡ modules.references_of stream.now [] [] outline.now.lpl.imports) }
+    ensures { IfOk result (λ found. found
+        ≡ modules.references_of stream.now [] [] outline.now.lpl.imports) }
 {
     let mut found = Items::new(alloc);
     let imports = outline.lpl.imports.as_slice();

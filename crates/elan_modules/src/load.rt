@@ -25,7 +25,8 @@ pub(crate) fn load<L: Loader>(
     reference: &Reference,
 ) -> Result<LoadedText, FlattenRefusal>
     requires { modules.is_name reference.now.name.bytes ≡ true }
-    ensures walks { Walks (λ library. spec.fetched walk.now reference.now (library reference.now.name.bytes))
+    ensures walks { Walks (λ library. spec.fetched walk.now reference.now
+        (library reference.now.name.bytes))
         (shelf L.library L.misses L.failures loaders.old) (shelf L.library L.misses L.failures loaders.new)
         (walk_with walk.now) result }
     ensures one { IfOk result (λ text. HasOne text.modules) }

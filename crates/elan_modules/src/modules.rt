@@ -252,7 +252,8 @@ fn written_all(
     sorts: &[Name],
     spans: &[Span],
 ) -> Result<Items<Name>, NoMemory>
-    ensures { IfOk result (λ names. names ≡ spec.written_all text.now parameters.now sorts.now spans.now) }
+    ensures { IfOk result (λ names. names
+        ≡ spec.written_all text.now parameters.now sorts.now spans.now) }
 {
     let mut found = Items::new(alloc);
     let mut left = spans;
@@ -271,7 +272,8 @@ pub(crate) fn imports_of(
     sorts: &[Name],
     sections: &[Section],
 ) -> Result<Items<Reference>, NoMemory>
-    ensures { IfOk result (λ found. found ≡ spec.imports_of text.now parameters.now sorts.now sections.now) }
+    ensures { IfOk result (λ found. found
+        ≡ spec.imports_of text.now parameters.now sorts.now sections.now) }
 {
     let mut found = Items::new(alloc);
     let mut left = sections;

@@ -41,7 +41,8 @@ fn loaded(
     tokens: Vec<Token>,
     outline: ModuleOutline,
 ) -> Result<LoadedText, FlattenRefusal>
-    ensures ok { IfOk result (λ text. text ≡ spec.loaded_text name.now bytes.items tokens.items outline) }
+    ensures ok { IfOk result (λ text. text
+        ≡ spec.loaded_text name.now bytes.items tokens.items outline) }
     ensures err { IfErr result (λ e. e ≡ OutOfMemory) }
 {
     let module = copy_name(alloc, name)?;

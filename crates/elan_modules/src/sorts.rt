@@ -84,7 +84,8 @@ pub(crate) fn written(
     sorts: &[Name],
     span: Span,
 ) -> Result<Name, NoMemory>
-    ensures { IfOk result (λ name. name.bytes ≡ spec.written text.now parameters.now sorts.now span) }
+    ensures { IfOk result (λ name. name.bytes
+        ≡ spec.written text.now parameters.now sorts.now span) }
 {
     let tokens = part(
         text.tokens.as_slice(),

@@ -119,7 +119,8 @@ pub(crate) fn visit<L: Loader>(
     path: &[Name],
     reference: &Reference,
 ) -> Result<(), FlattenRefusal>
-    ensures { Walks (λ library. spec.visit (256 - length path.now) library path.now walk.old reference.now)
+    ensures { Walks (λ library. spec.visit
+        (256 - length path.now) library path.now walk.old reference.now)
         (shelf L.library L.misses L.failures loaders.old) (shelf L.library L.misses L.failures loaders.new)
         (become walk.new) result }
 {
@@ -172,7 +173,8 @@ pub(crate) fn visit_all<L: Loader>(
     path: &[Name],
     references: &[Reference],
 ) -> Result<(), FlattenRefusal>
-    ensures { Walks (λ library. spec.visit_all (spec.visit (256 - length path.now) library) path.now walk.old references.now)
+    ensures { Walks (λ library. spec.visit_all
+        (spec.visit (256 - length path.now) library) path.now walk.old references.now)
         (shelf L.library L.misses L.failures loaders.old) (shelf L.library L.misses L.failures loaders.new)
         (become walk.new) result }
 {

@@ -15,6 +15,6 @@ PastMost most before after = (text : List ℕ) × Consumes before text after × 
 abbrev pub IsPast : Option (List ℕ) → Option (List ℕ) → Type 0
 IsPast before after = (text : List ℕ) × Consumes before text after
 
--- a front of the piece that is not all of it was written
+-- a prefix of the piece that is not all of it was written
 abbrev pub AppendsPart : Option (List ℕ) → List ℕ → Option (List ℕ) → Type 0
-AppendsPart before piece after = (front : List ℕ) × (rest : List ℕ) × (piece ≡ front ++ rest) × (0 < length rest) × Appends before front after
+AppendsPart before piece after = (prefix : List ℕ) × (rest : List ℕ) × (piece ≡ prefix ++ rest) × (0 < length rest) × Appends before prefix after

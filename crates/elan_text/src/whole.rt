@@ -22,8 +22,10 @@ pub fn read_all<S: Source>(
     ensures found { IfOk result (λ v. Drained (S.left source.old) v.items (S.left source.new)) }
     ensures within { IfOk result (λ v. length v.items ≤ max) }
     // Each error has its cause.
-    ensures long { IsErrOf result ReadRefusal.TooLong → PastMost max (S.left source.old) (S.left source.new) }
-    ensures fault { IsErrOf result ReadRefusal.ReadFault → Rose (S.failures source.old) (S.failures source.new) }
+    ensures long { IsErrOf result ReadRefusal.TooLong
+        → PastMost max (S.left source.old) (S.left source.new) }
+    ensures fault { IsErrOf result ReadRefusal.ReadFault
+        → Rose (S.failures source.old) (S.failures source.new) }
     ensures past { OnErr result (IsPast (S.left source.old) (S.left source.new)) }
     ensures kept { S.failures source.old ≤ S.failures source.new }
 {
@@ -39,7 +41,7 @@ pub fn read_all<S: Source>(
     Err(ReadRefusal::TooLong)
 }
 
-/// Writes the whole piece. It takes no memory. After an error a front of the piece is written that is not all of it.
+/// Writes the whole piece. It takes no memory. After an error a prefix of the piece is written that is not all of it.
 #[tactic(auto, using(crate::proofs::Fronts::appends_both))]
 pub fn write_all<K: Sink>(sink: &mut K, bytes: &[u8]) -> Result<(), WriteFault>
     ensures ok { OnOk result (Appends (K.written sink.old) bytes.now (K.written sink.new)) }

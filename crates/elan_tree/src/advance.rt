@@ -33,8 +33,11 @@ fn release<B: Branch, N: Name>(
 ) -> Result<(), NoMemory>
     requires normal { Normal node.old }
     requires within { length released.old.items ≤ limit }
-    ensures steps { Star (Step NoGrow (Makes B.sense (B.sense.kin root.now)) limit) record { released = released.old.items; tree = node.old } record { released = released.new.items; tree = node.new } }
-    ensures settled { OnOk result (IsSettled limit record { released = released.new.items; tree = plain node.new }) }
+    ensures steps { Star (Step NoGrow (Makes B.sense (B.sense.kin root.now)) limit)
+        record { released = released.old.items; tree = node.old }
+        record { released = released.new.items; tree = node.new } }
+    ensures settled { OnOk result (IsSettled limit
+        record { released = released.new.items; tree = plain node.new }) }
 {
     while released.len() < limit as usize {
         released.reserve(1)?;
@@ -59,8 +62,11 @@ pub(crate) fn advance<B: Branch, N: Name, R: Wait + Sync>(
 ) -> Result<u64, NoMemory>
     requires fit { Fit B.sense (B.sense.kin root.now) node.old }
     requires within { length released.old.items ≤ limit }
-    ensures steps { Star (Step NoGrow (Makes B.sense (B.sense.kin root.now)) limit) record { released = released.old.items; tree = node.old } record { released = released.new.items; tree = node.new } }
-    ensures settled { IfOk result (λ n. (n ≡ length released.new.items) × IsSettled limit record { released = released.new.items; tree = plain node.new }) }
+    ensures steps { Star (Step NoGrow (Makes B.sense (B.sense.kin root.now)) limit)
+        record { released = released.old.items; tree = node.old }
+        record { released = released.new.items; tree = node.new } }
+    ensures settled { IfOk result (λ n. (n ≡ length released.new.items)
+        × IsSettled limit record { released = released.new.items; tree = plain node.new }) }
 {
     settle(rt, alloc, posts, root, node)?;
     release(alloc, root, limit, released, node)?;
@@ -69,7 +75,9 @@ pub(crate) fn advance<B: Branch, N: Name, R: Wait + Sync>(
 
 /// Whether the spot is open. If so, its place names the branch of the spot.
 fn is_there<B: Branch, N: Name>(posts: &Posts<B, N>, spot: &Spot<B, N>, node: &Twig<B, N>) -> bool
-    ensures { MatchBool result (IsSomeAnd (first_at (at_place spot.now.index) node.now) (λ p. p.spot.value ≡ spot.now.value)) (first_at (at_place spot.now.index) node.now ≡ None) }
+    ensures { MatchBool result
+        (IsSomeAnd (first_at (at_place spot.now.index) node.now) (λ p. p.spot.value ≡ spot.now.value))
+        (first_at (at_place spot.now.index) node.now ≡ None) }
 {
     match find(node, spot.number()) {
         Some(place) => {
@@ -89,7 +97,9 @@ fn stand<B: Branch, N: Name, R: Wait + Sync>(
     growth: Growth<B>,
     node: &mut Twig<B, N>,
 ) -> Result<bool, NoMemory>
-    ensures stands { IfOk result (λ b. MatchBool b (Stands spot.now growth node.old node.new) ((has (at_place spot.now.index) node.old ≡ false) × (node.new ≡ node.old))) }
+    ensures stands { IfOk result (λ b.
+        MatchBool b (Stands spot.now growth node.old node.new)
+        ((has (at_place spot.now.index) node.old ≡ false) × (node.new ≡ node.old))) }
     ensures err { OnErr result (node.new ≡ node.old) }
 {
     if !is_there(posts, spot, node) {
@@ -145,8 +155,10 @@ pub(crate) fn grow<B: Branch, N: Name, R: Wait + Sync>(
     requires fit { Fit B.sense (B.sense.kin root.now) node.old }
     requires within { length released.old.items ≤ limit }
     requires growth { GrowthOf B.sense spot.now.value growth }
-    ensures moved { Moved B.sense (B.sense.kin root.now) limit spot.now growth (kept grown.old released.old.items node.old) (kept grown.new released.new.items node.new) }
-    ensures answer { IfOk result (Replies B.sense (B.sense.kin root.now) limit spot.now growth (kept grown.old released.old.items node.old) (kept grown.new released.new.items node.new)) }
+    ensures moved { Moved B.sense (B.sense.kin root.now) limit spot.now growth
+        (kept grown.old released.old.items node.old) (kept grown.new released.new.items node.new) }
+    ensures answer { IfOk result (Replies B.sense (B.sense.kin root.now) limit spot.now growth
+        (kept grown.old released.old.items node.old) (kept grown.new released.new.items node.new)) }
 {
     let before = count_open(node)?;
     if !stand(rt, alloc, posts, spot, growth, node)? {

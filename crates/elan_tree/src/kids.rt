@@ -15,7 +15,8 @@ use std::mem;
 pub(crate) fn only<I: Drop, O: Drop, K: Drop>(
     mut kids: Vec<Node<I, O, K>>,
 ) -> Result<Node<I, O, K>, Vec<Node<I, O, K>>>
-    ensures { MatchResult result (λ kid. kids.items ≡ kid ∷ []) (λ all. (all.items ≡ kids.items) × NotOne (trees kids.items)) }
+    ensures { MatchResult result (λ kid. kids.items ≡ kid ∷ [])
+        (λ all. (all.items ≡ kids.items) × NotOne (trees kids.items)) }
 {
     if kids.len() != 1 {
         return Err(kids);
@@ -94,7 +95,8 @@ pub(crate) fn flatten<I: Drop, O: Drop, K: Drop>(
     alloc: Global,
     mut kids: Vec<Node<I, O, K>>,
 ) -> Result<Vec<Node<I, O, K>>, Vec<Node<I, O, K>>>
-    ensures { MatchResult result (λ all. trees all.items ≡ flat (trees kids.items)) (λ all. all.items ≡ kids.items) }
+    ensures { MatchResult result (λ all. trees all.items ≡ flat (trees kids.items))
+        (λ all. all.items ≡ kids.items) }
 {
     let Some(total) = widths(&kids) else {
         return Err(kids);

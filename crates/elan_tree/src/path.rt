@@ -124,7 +124,8 @@ fn arm_way<I, B, K, N: Name>(
     arms: &Vec<Arm<I, Place<B, N>, K>>,
     number: u64,
 ) -> Result<Option<Vec<u64>>, NoMemory>
-    ensures { IfOk result (λ p. backwards p ≡ arm_path (at_place number) 0 (arms_of arms.now.items)) }
+    ensures { IfOk result (λ p. backwards p
+        ≡ arm_path (at_place number) 0 (arms_of arms.now.items)) }
 {
     for i in 0..arms.len() {
         let found = lead(way(alloc, &arms[i].node, number)?, i as u64)?;

@@ -76,7 +76,8 @@ fn plant_scope<B: Branch, N: Name, R: Wait + Sync>(
     one: bool,
     mut alts: Vec<(B, Arc<B::Then>)>,
 ) -> Result<Twig<B, N>, NoMemory>
-    ensures { IfOk result (λ t. (arms : _) × (t ≡ First one arms) × ArmsPosted IsFresh alts.items arms) }
+    ensures { IfOk result (λ t. (arms : _) × (t ≡ First one arms)
+        × ArmsPosted IsFresh alts.items arms) }
 {
     let mut arms = Vec::with_capacity(alloc, alts.len())?;
     'rest: while !alts.is_empty() {

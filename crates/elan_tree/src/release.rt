@@ -16,7 +16,8 @@ pub(crate) fn take_first<I: Drop, O: Drop, K: Drop>(
     node: &mut Node<I, O, K>,
 ) -> Option<I>
     requires { Normal node.old }
-    ensures { MatchOption result ((node.new ≡ node.old) × NotFirst node.old) (λ i. Gives node.old i node.new) }
+    ensures { MatchOption result ((node.new ≡ node.old) × NotFirst node.old)
+        (λ i. Gives node.old i node.new) }
 {
     let Node { shape } = mem::replace(node, Node::nothing(alloc));
     match shape {
@@ -35,7 +36,8 @@ pub(crate) fn take_first<I: Drop, O: Drop, K: Drop>(
 
 /// Takes the first child out, if it is an item.
 fn split<I: Drop, O: Drop, K: Drop>(mut kids: Vec<Node<I, O, K>>) -> (Option<I>, Node<I, O, K>)
-    ensures { MatchOption result.0 ((result.1 ≡ Cat (trees kids.items)) × NotFirst (Cat (trees kids.items))) (λ i. Gives (Cat (trees kids.items)) i result.1) }
+    ensures { MatchOption result.0 ((result.1 ≡ Cat (trees kids.items))
+        × NotFirst (Cat (trees kids.items))) (λ i. Gives (Cat (trees kids.items)) i result.1) }
 {
     if kids.is_empty() || !kids[0].is_item() {
         return (

@@ -17,7 +17,9 @@ pub(crate) fn place<B: Branch, N: Name>(
     number: u64,
     new: Twig<B, N>,
 ) -> Option<Twig<B, N>>
-    ensures { MatchOption result ((has (at_place number) node.old ≡ true) × (node.new ≡ put (at_place number) new node.old)) (λ back. (back ≡ new) × (has (at_place number) node.old ≡ false) × (node.new ≡ node.old)) }
+    ensures { MatchOption result
+        ((has (at_place number) node.old ≡ true) × (node.new ≡ put (at_place number) new node.old))
+        (λ back. (back ≡ new) × (has (at_place number) node.old ≡ false) × (node.new ≡ node.old)) }
 {
     match &mut node.shape {
         Shape::Item(_) => Some(new),
@@ -41,7 +43,10 @@ fn place_all<B: Branch, N: Name>(
     number: u64,
     new: Twig<B, N>,
 ) -> Option<Twig<B, N>>
-    ensures { MatchOption result ((any_has (at_place number) (trees kids.old.items) ≡ true) × (trees kids.new.items ≡ put_all (at_place number) new (trees kids.old.items))) (λ back. (back ≡ new) × (any_has (at_place number) (trees kids.old.items) ≡ false) × (trees kids.new.items ≡ trees kids.old.items)) }
+    ensures { MatchOption result ((any_has (at_place number) (trees kids.old.items) ≡ true)
+        × (trees kids.new.items ≡ put_all (at_place number) new (trees kids.old.items)))
+        (λ back. (back ≡ new) × (any_has (at_place number) (trees kids.old.items) ≡ false)
+        × (trees kids.new.items ≡ trees kids.old.items)) }
 {
     let mut new = new;
     for i in 0..kids.len() {
@@ -59,7 +64,10 @@ fn place_arms<B: Branch, N: Name>(
     number: u64,
     new: Twig<B, N>,
 ) -> Option<Twig<B, N>>
-    ensures { MatchOption result ((arm_has (at_place number) (arms_of arms.old.items) ≡ true) × (arms_of arms.new.items ≡ put_arms (at_place number) new (arms_of arms.old.items))) (λ back. (back ≡ new) × (arm_has (at_place number) (arms_of arms.old.items) ≡ false) × (arms_of arms.new.items ≡ arms_of arms.old.items)) }
+    ensures { MatchOption result ((arm_has (at_place number) (arms_of arms.old.items) ≡ true)
+        × (arms_of arms.new.items ≡ put_arms (at_place number) new (arms_of arms.old.items)))
+        (λ back. (back ≡ new) × (arm_has (at_place number) (arms_of arms.old.items) ≡ false)
+        × (arms_of arms.new.items ≡ arms_of arms.old.items)) }
 {
     let mut new = new;
     for i in 0..arms.len() {

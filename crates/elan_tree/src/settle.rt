@@ -120,7 +120,8 @@ fn settle_shells<B: Branch, N: Name, R: Wait + Sync>(
 ) -> Result<(), NoMemory>
     requires fit { Fits B.sense (B.sense.kin root.now) (trees kids.old.items) }
     requires waits { AllWait (trees kids.old.items) }
-    ensures settles { SettlesAll B.sense (B.sense.kin root.now) (trees kids.old.items) (trees kids.new.items) }
+    ensures settles { SettlesAll B.sense (B.sense.kin root.now)
+        (trees kids.old.items) (trees kids.new.items) }
     ensures normal { OnOk result (Flats (trees kids.new.items)) }
     ensures len { length kids.new.items ≡ length kids.old.items }
 {
@@ -142,7 +143,8 @@ fn push_down<B: Branch, N: Name, R: Wait + Sync>(
 ) -> (Twig<B, N>, Result<(), NoMemory>)
     requires fit { Fit B.sense (B.sense.kin root.now) (Then false (Cat (trees kids.items)) then) }
     requires normal { Normal (Cat (trees kids.items)) }
-    ensures settles { Settles B.sense (B.sense.kin root.now) (Then false (Cat (trees kids.items)) then) result.0 }
+    ensures settles { Settles B.sense (B.sense.kin root.now)
+        (Then false (Cat (trees kids.items)) then) result.0 }
     ensures normal { OnOk result.1 (Normal result.0) }
 {
     match shells(alloc, kids.len(), &then) {
@@ -181,7 +183,8 @@ fn cut_down<B: Branch, N: Name, R: Wait + Sync>(
 ) -> (Twig<B, N>, Result<(), NoMemory>)
     requires fit { Fit B.sense (B.sense.kin root.now) (Then true (Cat (trees kids.items)) then) }
     requires normal { Normal (Cat (trees kids.items)) × NotEmpty (Cat (trees kids.items)) }
-    ensures settles { Settles B.sense (B.sense.kin root.now) (Then true (Cat (trees kids.items)) then) result.0 }
+    ensures settles { Settles B.sense (B.sense.kin root.now)
+        (Then true (Cat (trees kids.items)) then) result.0 }
     ensures normal { OnOk result.1 (Normal result.0) }
 {
     cut(&mut kids);
@@ -262,7 +265,8 @@ fn choose<B: Branch, N: Name, R: Wait + Sync>(
 ) -> (Twig<B, N>, Result<(), NoMemory>)
     requires fit { Fit B.sense (B.sense.kin root.now) (First one (arms_of arms.items)) }
     requires normal { NormalArms (arms_of arms.items) }
-    ensures settles { Settles B.sense (B.sense.kin root.now) (First one (arms_of arms.items)) result.0 }
+    ensures settles { Settles B.sense (B.sense.kin root.now)
+        (First one (arms_of arms.items)) result.0 }
     ensures normal { OnOk result.1 (Normal result.0) }
 {
     trim(&mut arms);
@@ -286,7 +290,8 @@ fn tidy<I: Drop, O: Drop, K: Drop>(
     alloc: Global,
     kids: Vec<Node<I, O, K>>,
 ) -> (Node<I, O, K>, Result<(), NoMemory>)
-    ensures { MatchResult result.1 (λ _. result.0 ≡ joined (flat (trees kids.items))) (λ _. result.0 ≡ Cat (trees kids.items)) }
+    ensures { MatchResult result.1 (λ _. result.0 ≡ joined (flat (trees kids.items)))
+        (λ _. result.0 ≡ Cat (trees kids.items)) }
 {
     match flatten(alloc, kids) {
         Ok(all) => match only(all) {
@@ -380,7 +385,8 @@ fn settle_all<B: Branch, N: Name, R: Wait + Sync>(
     kids: &mut Vec<Twig<B, N>>,
 ) -> Result<(), NoMemory>
     requires fit { Fits B.sense (B.sense.kin root.now) (trees kids.old.items) }
-    ensures settles { SettlesAll B.sense (B.sense.kin root.now) (trees kids.old.items) (trees kids.new.items) }
+    ensures settles { SettlesAll B.sense (B.sense.kin root.now)
+        (trees kids.old.items) (trees kids.new.items) }
     ensures normal { OnOk result (Normals (trees kids.new.items)) }
 {
     for i in 0..kids.len() {
@@ -399,7 +405,8 @@ fn settle_arms<B: Branch, N: Name, R: Wait + Sync>(
     arms: &mut Vec<Limb<B, N>>,
 ) -> Result<(), NoMemory>
     requires fit { FitArms B.sense (B.sense.kin root.now) (arms_of arms.old.items) }
-    ensures settles { SettlesArms B.sense (B.sense.kin root.now) (arms_of arms.old.items) (arms_of arms.new.items) }
+    ensures settles { SettlesArms B.sense (B.sense.kin root.now) (arms_of arms.old.items)
+        (arms_of arms.new.items) }
     ensures normal { OnOk result (NormalArms (arms_of arms.new.items)) }
 {
     for i in 0..arms.len() {

@@ -102,7 +102,8 @@ fn list_all<I, B, K, N: Name>(
     kids: &Vec<Node<I, Place<B, N>, K>>,
     out: &mut Vec<Spot<B, N>>,
 ) -> Result<(), NoMemory>
-    ensures { OnOk result (out.new.items ≡ out.old.items ++ fresh_spots (all_places (trees kids.now.items))) }
+    ensures { OnOk result (out.new.items
+        ≡ out.old.items ++ fresh_spots (all_places (trees kids.now.items))) }
 {
     for i in 0..kids.len() {
         list(&kids[i], out)?;
@@ -115,7 +116,8 @@ fn list_arms<I, B, K, N: Name>(
     arms: &Vec<Arm<I, Place<B, N>, K>>,
     out: &mut Vec<Spot<B, N>>,
 ) -> Result<(), NoMemory>
-    ensures { OnOk result (out.new.items ≡ out.old.items ++ fresh_spots (arm_places (arms_of arms.now.items))) }
+    ensures { OnOk result (out.new.items
+        ≡ out.old.items ++ fresh_spots (arm_places (arms_of arms.now.items))) }
 {
     for i in 0..arms.len() {
         list(&arms[i].node, out)?;

@@ -42,9 +42,21 @@ impl<'p, B: Branch, N: Name> Model for Tree<'p, B, N> {
 
     ghost coded = { standing_code B.code B.Item.code B.Then.code };
 
-    ghost view = { λ t. record { root = t.root; limit = t.limit; grown = t.grown; released = t.released.items; tree = plain t.node } };
+    ghost view = { λ t. record {
+      root = t.root;
+      limit = t.limit;
+      grown = t.grown;
+      released = t.released.items;
+      tree = plain t.node;
+    } };
 
-    ghost invariant = { λ t. Sound B.sense record { root = t.root; limit = t.limit; grown = t.grown; released = t.released.items; tree = plain t.node } };
+    ghost invariant = { λ t. Sound B.sense record {
+      root = t.root;
+      limit = t.limit;
+      grown = t.grown;
+      released = t.released.items;
+      tree = plain t.node;
+    } };
 }
 
 impl<'p, B: Branch, N: Name> Tree<'p, B, N> {
@@ -55,7 +67,8 @@ impl<'p, B: Branch, N: Name> Tree<'p, B, N> {
         root: Spot<B, N>,
         limit: u32,
     ) -> Result<Tree<'p, B, N>, NoMemory>
-        ensures { IsOkAnd result (λ t. t ≡ record { root = root; limit = limit; grown = 0; released = []; tree = Open root }) }
+        ensures { IsOkAnd result (λ t.
+            t ≡ record { root = root; limit = limit; grown = 0; released = []; tree = Open root }) }
     {
         let node = Node {
             shape: Shape::Open(Place {
@@ -113,7 +126,8 @@ impl<'p, B: Branch, N: Name> Tree<'p, B, N> {
 
     /// Whether the limit is reached or the tree is empty. Callers also learn what holds of every tree.
     pub fn is_over(&self) -> bool
-        ensures over { IsTrue result ↔ ((length self.now.released ≡ self.now.limit) ⊎ (self.now.tree ≡ Cat none)) }
+        ensures over { IsTrue result ↔ ((length self.now.released ≡ self.now.limit)
+            ⊎ (self.now.tree ≡ Cat none)) }
         ensures sound { Sound B.sense self.now }
     {
         self.released.len() >= self.limit as usize || self.node.is_empty()
@@ -164,7 +178,8 @@ impl<'p, B: Branch, N: Name> Tree<'p, B, N> {
     /// Without memory the tree is on the way there.
     pub fn settle<R: Wait + Sync>(&mut self, rt: &R) -> Result<u64, NoMemory>
         ensures advances { Advances B.sense self.old self.new }
-        ensures settled { IfOk result (λ n. (n ≡ length self.new.released) × IsSettled self.new.limit (state self.new)) }
+        ensures settled { IfOk result (λ n.
+            (n ≡ length self.new.released) × IsSettled self.new.limit (state self.new)) }
     {
         let root = self.posts.branch(&self.root);
         advance(

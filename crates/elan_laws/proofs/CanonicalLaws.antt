@@ -11,13 +11,13 @@ use Rattle.elan_terms.specs.Term.{sort_of, shape_sort, ascending, is_ac, shape_a
 use Rattle.elan_terms.proofs.TreeLemmas.{case_term-app}
 use Rattle.elan_terms.proofs.TermLemmas.{arms-int, arms-app, canon-int, canon-app}
 use Rattle.elan_terms.proofs.MatchLemmas.{sort_of-app}
-use Rattle.elan_laws.specs.Valid.{HasSort, IsNumber, MayTake, IsAllowed, IsValid}
-use Rattle.elan_laws.specs.Ascending.{NotAfter}
-use Rattle.elan_laws.specs.Canonical.{is_headed, IsSettled, IsCanonical}
-use Rattle.elan_laws.proofs.Lists.{AllOf, all_of, all_from, pairs_of, pairs_from, all_both, all_append, all_map, all_flat, all_mapped, mapped_itself}
-use Rattle.elan_laws.proofs.Induction.{ind_term, cases_term}
-use Rattle.elan_laws.proofs.NodeLemmas.{throughout_app, app_throughout, match_true, match_false}
-use Rattle.elan_laws.proofs.Sorting.{not_true, ascending-pairs, ascending-all, ascending-length, ascending-itself}
+use Rattle.elan_terms.specs.Valid.{HasSort, IsNumber, MayTake, IsAllowed, IsValid}
+use Rattle.elan_terms.specs.Ascending.{NotAfter}
+use Rattle.elan_terms.specs.Canonical.{is_headed, IsSettled, IsCanonical}
+use Rattle.elan_terms.proofs.Lists.{AllOf, all_of, all_from, pairs_of, pairs_from, all_both, all_append, all_map, all_flat, all_mapped, mapped_itself}
+use Rattle.elan_terms.proofs.Induction.{ind_term, cases_term}
+use Rattle.elan_terms.proofs.NodeLemmas.{throughout_app, app_throughout, match_true, match_false}
+use Rattle.elan_terms.proofs.Sorting.{not_true, ascending-pairs, ascending-all, ascending-length, ascending-itself}
 
 -- ---- the equations
 

@@ -5,13 +5,13 @@ use Rattle.elan_terms.specs.declared.tree.Term.{Term}
 use Rattle.elan_terms.specs.declared.tree.Shapes.{Shapes}
 use Rattle.elan_terms.specs.Trees.{app_term}
 use Rattle.elan_terms.specs.Term.{order, put_in, ascending, is_ac, arms_under, node, canon}
-use Rattle.elan_laws.specs.Valid.{IsValid}
-use Rattle.elan_laws.specs.Canonical.{is_headed}
+use Rattle.elan_terms.specs.Valid.{IsValid}
+use Rattle.elan_terms.specs.Canonical.{is_headed}
 use Rattle.elan_laws.specs.Equality.{EqualModulo, reflexive, symmetric, transitive, congruent, commutative, associative, nested}
-use Rattle.elan_laws.proofs.Lists.{AllOf, all_map, all_mapped}
-use Rattle.elan_laws.proofs.Induction.{ind_term}
-use Rattle.elan_laws.proofs.NodeLemmas.{two_arguments, valid_arguments}
-use Rattle.elan_laws.proofs.Sorting.{put_in-length, ascending-length}
+use Rattle.elan_terms.proofs.Lists.{AllOf, all_map, all_mapped}
+use Rattle.elan_terms.proofs.Induction.{ind_term}
+use Rattle.elan_terms.proofs.NodeLemmas.{two_arguments, valid_arguments}
+use Rattle.elan_terms.proofs.Sorting.{put_in-length, ascending-length}
 use Rattle.elan_laws.proofs.Multisets.{ascending-middle, ascending-swap}
 use Rattle.elan_laws.proofs.CanonicalLaws.{true_or_false, canon-of_int, canon-of_app, canon-valid, node-ac, node-plain, arms-same, arms-other, headed_is, mapped_length}
 

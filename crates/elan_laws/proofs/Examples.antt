@@ -14,13 +14,13 @@ use Rattle.elan_terms.specs.declared.tree.PatternNode.TheBlock.{shape-the_row-Pa
 use Rattle.elan_terms.specs.Trees.{app_term, int_term}
 use Rattle.elan_terms.specs.Term.{order, arms_under, canon, node, is_ac, sort_of}
 use Rattle.elan_terms.specs.Match.{pieces, pieces_at, parts, variables, occurrences}
-use Rattle.elan_laws.specs.Valid.{HasSort, IsValid}
-use Rattle.elan_laws.specs.Ascending.{NotAfter}
-use Rattle.elan_laws.specs.Canonical.{is_headed, IsSettled, IsCanonical}
+use Rattle.elan_terms.specs.Valid.{HasSort, IsValid}
+use Rattle.elan_terms.specs.Ascending.{NotAfter}
+use Rattle.elan_terms.specs.Canonical.{is_headed, IsSettled, IsCanonical}
 use Rattle.elan_laws.specs.Parts.{none, taken, left, IsPart, whole, inside, some}
 use Rattle.elan_laws.specs.Matching.{filled, IsMatch}
 use Rattle.elan_laws.specs.Equality.{EqualModulo, symmetric, transitive, congruent, commutative, associative, nested}
-use Rattle.elan_laws.proofs.Lists.{all_from, pairs_of, pairs_from}
+use Rattle.elan_terms.proofs.Lists.{all_from, pairs_of, pairs_from}
 use Rattle.elan_laws.proofs.CanonicalLaws.{app_canonical}
 use Rattle.elan_laws.proofs.EqualityLaws.{equal-canon}
 

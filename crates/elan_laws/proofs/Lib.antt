@@ -1,8 +1,3 @@
-pub mod Induction
-pub mod Lists
-pub mod NodeLemmas
-pub mod OrderLaws
-pub mod Sorting
 pub mod CanonicalLaws
 pub mod PartLaws
 pub mod TimesLaws

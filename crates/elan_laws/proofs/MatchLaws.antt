@@ -14,13 +14,13 @@ use Rattle.elan_terms.specs.Trees.{int_term, app_term, fold_pattern_row}
 use Rattle.elan_terms.specs.Term.{order, same, sort_of, node, canon}
 use Rattle.elan_terms.specs.Match.{parts, variables, is_sort, has_sort, prefixed, choices, assignments, bound, instance, fits, matches}
 use Rattle.elan_terms.proofs.OrderLemmas.{order-itself, same-equal, equal-same}
-use Rattle.elan_laws.specs.Valid.{HasSort, IsValid}
-use Rattle.elan_laws.specs.Ascending.{Before, NotAfter}
-use Rattle.elan_laws.specs.Canonical.{is_headed, IsSettled, IsCanonical}
+use Rattle.elan_terms.specs.Valid.{HasSort, IsValid}
+use Rattle.elan_terms.specs.Ascending.{Before, NotAfter}
+use Rattle.elan_terms.specs.Canonical.{is_headed, IsSettled, IsCanonical}
 use Rattle.elan_laws.specs.Parts.{SomeOf, IsPart, whole, inside, some}
 use Rattle.elan_laws.specs.Matching.{filled, MayHave, IsMatch, AscendLexicographically}
-use Rattle.elan_laws.proofs.Lists.{AllOf, Pairs, In, in_of_contains, contains_of_in, all_of, all_from, pairs_of, pairs_from, in_all, all_append, in_filter, in_kept, in_map, in_mapped, in_flat, in_flattened}
-use Rattle.elan_laws.proofs.Sorting.{not_true}
+use Rattle.elan_terms.proofs.Lists.{AllOf, Pairs, In, in_of_contains, contains_of_in, all_of, all_from, pairs_of, pairs_from, in_all, all_append, in_filter, in_kept, in_map, in_mapped, in_flat, in_flattened}
+use Rattle.elan_terms.proofs.Sorting.{not_true}
 use Rattle.elan_laws.proofs.TimesLaws.{some_all, some_pairs}
 use Rattle.elan_laws.proofs.CanonicalLaws.{canon-of_int, canon-of_app, canonical-canon, canonical_app, app_canonical}
 use Rattle.elan_laws.proofs.PartLaws.{parts-ascend, parts-exact}

@@ -6,8 +6,8 @@ use Rattle.std.specs.Ordering.{ordering_reverse}
 use Rattle.elan_terms.specs.declared.tree.Term.{Term}
 use Rattle.elan_terms.specs.Term.{order, put_in, ascending}
 use Rattle.elan_terms.proofs.OrderLemmas.{order-equal}
-use Rattle.elan_laws.proofs.OrderLaws.{reversed}
-use Rattle.elan_laws.proofs.Sorting.{not_true, after, not_after_trans}
+use Rattle.elan_terms.proofs.OrderLaws.{reversed}
+use Rattle.elan_terms.proofs.Sorting.{not_true, after, not_after_trans}
 use Rattle.elan_laws.proofs.CanonicalLaws.{true_or_false}
 
 -- ---- two terms are put in in either order

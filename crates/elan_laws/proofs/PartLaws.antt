@@ -11,13 +11,13 @@ use Rattle.elan_terms.specs.Term.{order, same, ascending, is_ac}
 use Rattle.elan_terms.specs.Match.{sublists, pieces_at, pieces, once, parts}
 use Rattle.elan_terms.proofs.MatchLemmas.{pieces-int, pieces-app}
 use Rattle.elan_terms.proofs.OrderLemmas.{same-equal}
-use Rattle.elan_laws.specs.Valid.{IsValid}
-use Rattle.elan_laws.specs.Ascending.{Before, NotAfter, AscendsStrictly}
+use Rattle.elan_terms.specs.Valid.{IsValid}
+use Rattle.elan_terms.specs.Ascending.{Before, NotAfter, AscendsStrictly}
 use Rattle.elan_laws.specs.Parts.{SomeOf, none, taken, left, IsPart, whole, inside, some}
-use Rattle.elan_laws.proofs.Lists.{AllOf, Pairs, In, in_of_contains, contains_of_in, pairs_from, in_all, in_left, in_right, in_either, in_filter, in_kept, in_map, in_mapped, in_flat, in_flattened}
-use Rattle.elan_laws.proofs.Induction.{ind_term, cases_term}
-use Rattle.elan_laws.proofs.NodeLemmas.{two_arguments, valid_arguments}
-use Rattle.elan_laws.proofs.Sorting.{not_true, ascending-pairs, ascending-in, in_ascending}
+use Rattle.elan_terms.proofs.Lists.{AllOf, Pairs, In, in_of_contains, contains_of_in, pairs_from, in_all, in_left, in_right, in_either, in_filter, in_kept, in_map, in_mapped, in_flat, in_flattened}
+use Rattle.elan_terms.proofs.Induction.{ind_term, cases_term}
+use Rattle.elan_terms.proofs.NodeLemmas.{two_arguments, valid_arguments}
+use Rattle.elan_terms.proofs.Sorting.{not_true, ascending-pairs, ascending-in, in_ascending}
 
 -- ---- each once
 

@@ -14,13 +14,13 @@ use Rattle.elan_terms.specs.Term.{shape_sort, is_ac}
 use Rattle.elan_terms.specs.Match.{is_sort, occurrences, variables, bound}
 use Rattle.elan_terms.proofs.MatchLemmas.{sort_of-int}
 use Rattle.elan_program.specs.Patterns.{is_in_range, sort_of_int, are_of_sorts, are_all_of, args_fit, sort_over, pattern_sort, is_bound, uses, are_numbered}
-use Rattle.elan_laws.specs.Valid.{HasSort, MayTake, IsAllowed, IsValid}
+use Rattle.elan_terms.specs.Valid.{HasSort, MayTake, IsAllowed, IsValid}
 use Rattle.elan_laws.specs.Parts.{SomeOf, IsPart, whole, inside, some}
 use Rattle.elan_laws.specs.Matching.{filled, HasValue, MayHave, IsMatch}
-use Rattle.elan_laws.specs.Valid.{IsValidOf}
-use Rattle.elan_laws.proofs.Lists.{AllOf, in_of_contains, all_from, in_all}
-use Rattle.elan_laws.proofs.NodeLemmas.{valid_arguments}
-use Rattle.elan_laws.proofs.Sorting.{not_true}
+use Rattle.elan_terms.specs.Valid.{IsValidOf}
+use Rattle.elan_terms.proofs.Lists.{AllOf, in_of_contains, all_from, in_all}
+use Rattle.elan_terms.proofs.NodeLemmas.{valid_arguments}
+use Rattle.elan_terms.proofs.Sorting.{not_true}
 use Rattle.elan_laws.proofs.CanonicalLaws.{TakesAlike, ac_takes, takes_ac, valid_app, app_valid, sort-of_app, at_true, at_false, true_or_false}
 use Rattle.elan_laws.proofs.TimesLaws.{some_all}
 use Rattle.elan_laws.proofs.MatchLaws.{is_sort-some, zip_weaker}

@@ -5,11 +5,11 @@ use Rattle.std.specs.declared.cmp.Ordering.TheVariants.{Less, Equal, Greater}
 use Rattle.elan_terms.specs.declared.tree.Term.{Term}
 use Rattle.elan_terms.specs.Term.{order, same}
 use Rattle.elan_terms.proofs.OrderLemmas.{order-equal, same-equal, equal-same}
-use Rattle.elan_laws.specs.Ascending.{NotAfter, Ascends}
+use Rattle.elan_terms.specs.Ascending.{NotAfter, Ascends}
 use Rattle.elan_laws.specs.Parts.{SomeOf, none, taken, left, times}
-use Rattle.elan_laws.proofs.Lists.{AllOf, Pairs, In, pairs_of, pairs_from, in_all, all_map}
-use Rattle.elan_laws.proofs.OrderLaws.{transitive}
-use Rattle.elan_laws.proofs.Sorting.{not_true}
+use Rattle.elan_terms.proofs.Lists.{AllOf, Pairs, In, pairs_of, pairs_from, in_all, all_map}
+use Rattle.elan_terms.proofs.OrderLaws.{transitive}
+use Rattle.elan_terms.proofs.Sorting.{not_true}
 use Rattle.elan_laws.proofs.CanonicalLaws.{true_or_false}
 
 -- ---- what holds of all holds of some

@@ -1,7 +1,3 @@
-pub mod Nodes
-pub mod Valid
-pub mod Ascending
-pub mod Canonical
 pub mod Parts
 pub mod Matching
 pub mod Equality

@@ -10,7 +10,7 @@ use Rattle.elan_terms.specs.declared.tree.Shapes.{Shapes}
 use Rattle.elan_terms.specs.Trees.{fold_pattern, int_term, app_term}
 use Rattle.elan_terms.specs.Term.{order, canon}
 use Rattle.elan_terms.specs.Match.{variables, bound}
-use Rattle.elan_laws.specs.Valid.{HasSort, IsValidOf}
+use Rattle.elan_terms.specs.Valid.{HasSort, IsValidOf}
 use Rattle.elan_laws.specs.Parts.{IsPart}
 
 -- the term that a pattern is where these values stand for its variables

@@ -16,9 +16,9 @@ ghost use Rattle.elan_terms.specs.Match.{parts, variables, bound, instance, matc
 ghost use Rattle.elan_program.specs.declared.signature.Signature.{Signature as SignatureValue};
 ghost use Rattle.elan_program.specs.Patterns.{pattern_sort, uses, are_numbered};
 ghost use Rattle.elan_program.specs.Soundness.{injections, has_no_cycle};
-ghost use Rattle.elan_laws.specs.Canonical.{IsCanonical};
-ghost use Rattle.elan_laws.specs.Valid.{IsValid, IsValidOf};
-ghost use Rattle.elan_laws.specs.Ascending.{Ascends, AscendsStrictly};
+ghost use Rattle.elan_terms.specs.Canonical.{IsCanonical};
+ghost use Rattle.elan_terms.specs.Valid.{IsValid, IsValidOf};
+ghost use Rattle.elan_terms.specs.Ascending.{Ascends, AscendsStrictly};
 ghost use Rattle.elan_laws.specs.Parts.{IsPart, SomeOf, times};
 ghost use Rattle.elan_laws.specs.Matching.{filled, HasValue, IsMatch, AscendLexicographically};
 ghost use Rattle.elan_laws.specs.Equality.{EqualModulo};
@@ -29,35 +29,46 @@ ghost use Rattle.elan_laws.specs.Injections.{BeginAmong, HasNoCycle};
 pub fn order_is_total()
     ensures equal { (t u : TermValue) → (order t u ≡ Equal) ↔ (t ≡ u) }
     ensures reversed { (t u : TermValue) → order t u ≡ ordering_reverse (order u t) }
-    ensures transitive { (t u v : TermValue) → order t u ≡ Less → order u v ≡ Less → order t v ≡ Less }
+    ensures transitive { (t u v : TermValue) → order t u ≡ Less → order u v ≡ Less → order t v
+        ≡ Less }
 {}
 
 /// Integers stand before applications and are ordered by value. Applications are ordered by operator
 /// number, then by number of arguments, then by their arguments lexicographically.
 pub fn order_by_heads()
     ensures integers { (x y : ℤ) → order (int_term x) (int_term y) ≡ int_cmp x y }
-    ensures kinds { (x : ℤ) (f : OpValue) (ts : List TermValue) → order (int_term x) (app_term f ts) ≡ Less }
-    ensures applications { (f g : OpValue) (ts us : List TermValue) → order (app_term f ts) (app_term g us)
+    ensures kinds { (x : ℤ) (f : OpValue) (ts : List TermValue)
+        → order (int_term x) (app_term f ts) ≡ Less }
+    ensures applications { (f g : OpValue) (ts us : List TermValue)
+        → order (app_term f ts) (app_term g us)
         ≡ ordering_then (nat_cmp f.0 g.0) (ordering_then (nat_cmp (length ts) (length us)) (slice_cmp order ts us)) }
 {}
 
 /// The canonical form is canonical, and it is the term itself where that is canonical already. It has
 /// the term's sort, and is valid where the term is.
 pub fn canonical_form()
-    ensures canonical { (shapes : ShapesValue) (t : TermValue) → IsCanonical shapes (canon shapes t) }
-    ensures itself { (shapes : ShapesValue) (t : TermValue) → IsCanonical shapes t → canon shapes t ≡ t }
-    ensures idempotent { (shapes : ShapesValue) (t : TermValue) → canon shapes (canon shapes t) ≡ canon shapes t }
-    ensures sort { (shapes : ShapesValue) (t : TermValue) → sort_of shapes (canon shapes t) ≡ sort_of shapes t }
-    ensures valid { (shapes : ShapesValue) (t : TermValue) → IsValid shapes t → IsValid shapes (canon shapes t) }
+    ensures canonical { (shapes : ShapesValue) (t : TermValue)
+        → IsCanonical shapes (canon shapes t) }
+    ensures itself { (shapes : ShapesValue) (t : TermValue) → IsCanonical shapes t → canon shapes t
+        ≡ t }
+    ensures idempotent { (shapes : ShapesValue) (t : TermValue) → canon shapes (canon shapes t)
+        ≡ canon shapes t }
+    ensures sort { (shapes : ShapesValue) (t : TermValue) → sort_of shapes (canon shapes t)
+        ≡ sort_of shapes t }
+    ensures valid { (shapes : ShapesValue) (t : TermValue) → IsValid shapes t
+        → IsValid shapes (canon shapes t) }
 {}
 
 /// Two valid terms are equal modulo associativity and commutativity exactly where their canonical
 /// forms are equal. That terms that are equal so have one canonical form is true of all terms.
 pub fn equality_modulo_ac()
-    ensures exactly { (shapes : ShapesValue) (t u : TermValue) → IsValid shapes t → IsValid shapes u →
+    ensures exactly { (shapes : ShapesValue) (t u : TermValue) → IsValid shapes t
+        → IsValid shapes u →
         EqualModulo shapes t u ↔ (canon shapes t ≡ canon shapes u) }
-    ensures one_form { (shapes : ShapesValue) (t u : TermValue) → EqualModulo shapes t u → canon shapes t ≡ canon shapes u }
-    ensures form { (shapes : ShapesValue) (t : TermValue) → IsValid shapes t → EqualModulo shapes t (canon shapes t) }
+    ensures one_form { (shapes : ShapesValue) (t u : TermValue) → EqualModulo shapes t u
+        → canon shapes t ≡ canon shapes u }
+    ensures form { (shapes : ShapesValue) (t : TermValue) → IsValid shapes t
+        → EqualModulo shapes t (canon shapes t) }
 {}
 
 /// The list of parts ascends, so that each part stands in it once, and it holds the parts and nothing else.
@@ -74,8 +85,10 @@ pub fn parts_ascend()
 /// The list of matches ascends lexicographically, so that each match stands in it once, and in a
 /// canonical term it holds the matches and nothing else.
 pub fn matches_once()
-    ensures order { (shapes : ShapesValue) (p : PatternValue) (t : TermValue) → AscendLexicographically (matches shapes p t) }
-    ensures matches { (shapes : ShapesValue) (p : PatternValue) (t : TermValue) (values : List TermValue) →
+    ensures order { (shapes : ShapesValue) (p : PatternValue) (t : TermValue)
+        → AscendLexicographically (matches shapes p t) }
+    ensures matches { (shapes : ShapesValue) (p : PatternValue) (t : TermValue)
+        (values : List TermValue) →
         IsValid shapes t → IsCanonical shapes t → Contains (matches shapes p t) values ↔ IsMatch shapes p t values }
 {}
 
@@ -90,17 +103,22 @@ pub fn instances_are_canonical()
 /// its sort; a well-sorted pattern filled with such values is a valid term of the pattern's sort; and
 /// so is its canonical form.
 pub fn sorts_are_kept()
-    ensures parts { (shapes : ShapesValue) (t p : TermValue) → IsValid shapes t → IsPart shapes p t → IsValid shapes p }
-    ensures matches { (shapes : ShapesValue) (p : PatternValue) (t : TermValue) (values : List TermValue) →
+    ensures parts { (shapes : ShapesValue) (t p : TermValue) → IsValid shapes t → IsPart shapes p t
+        → IsValid shapes p }
+    ensures matches { (shapes : ShapesValue) (p : PatternValue) (t : TermValue)
+        (values : List TermValue) →
         IsValid shapes t → IsMatch shapes p t values → AllZip (HasValue shapes) (variables p) values }
-    ensures filled { (shapes : ShapesValue) (sorts : ℕ) (known : List (ℕ × SortValue)) (p : PatternValue) (s : SortValue)
+    ensures filled { (shapes : ShapesValue) (sorts : ℕ) (known : List (ℕ × SortValue))
+        (p : PatternValue) (s : SortValue)
         (values : List TermValue) → IsTrue (are_numbered sorts 0 known) → AllZip (HasValue shapes) known values →
         IsTrue (uses known p) → pattern_sort shapes p ≡ Some s → IsValidOf shapes s (filled (bound known values) p) }
-    ensures canonical { (shapes : ShapesValue) (s : SortValue) (t : TermValue) → IsValidOf shapes s t → IsValidOf shapes s (canon shapes t) }
+    ensures canonical { (shapes : ShapesValue) (s : SortValue) (t : TermValue)
+        → IsValidOf shapes s t → IsValidOf shapes s (canon shapes t) }
 {}
 
 /// In a signature whose injections begin at its sorts, none of them leads a sort back to itself exactly where no chain of
 /// them is longer than there are sorts, which is how a signature is tested.
 pub fn injections_end()
-    ensures { (g : SignatureValue) → BeginAmong (length g.sorts) (injections g) → (has_no_cycle g ≡ true) ↔ HasNoCycle (injections g) }
+    ensures { (g : SignatureValue) → BeginAmong (length g.sorts) (injections g)
+        → (has_no_cycle g ≡ true) ↔ HasNoCycle (injections g) }
 {}

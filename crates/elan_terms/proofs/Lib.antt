@@ -3,6 +3,12 @@ pub mod TermLemmas
 pub mod WeightLemmas
 pub mod MatchLemmas
 pub mod OrderLemmas
-mod Examples
 pub mod SortLemmas
 pub mod HeadLemmas
+pub mod Lists
+pub mod Induction
+pub mod NodeLemmas
+pub mod OrderLaws
+pub mod Sorting
+pub mod TestLemmas
+mod Examples

@@ -27,7 +27,9 @@ fn extended_onto(
     sort: SortId,
     later: &[Items<Term>],
 ) -> Result<(), NoMemory>
-    ensures { IfOk result (λ _. out.new ≡ out.old ++ flat_map (spec.prefixed later.now) (filter (spec.has_sort shapes.now sort) terms.now)) }
+    ensures { IfOk result (λ _.
+        out.new ≡ out.old ++ flat_map (spec.prefixed later.now)
+        (filter (spec.has_sort shapes.now sort) terms.now)) }
 {
     for term in terms {
         if has_sort(shapes, term, sort) {
@@ -86,16 +88,19 @@ fn bound(
     }
 }
 
+/// The canonical form of a pattern in which these terms, each canonical, stand for these variables,
+/// and the integer 0 for any other.
 #[cycle(instance)]
 #[tactic(auto, using(crate::proofs::MatchLemmas::instances, crate::proofs::WeightLemmas::falls))]
-pub(crate) fn instance(
+pub fn instance(
     alloc: Global,
     shapes: &Shapes,
     variables: &[(u32, SortId)],
     terms: &[Term],
     pattern: &Pattern,
 ) -> Result<Term, NoMemory>
-    ensures { IfOk result (λ t. t ≡ spec.instance shapes.now (spec.bound variables.now terms.now) pattern.now) }
+    ensures { IfOk result (λ t.
+        t ≡ spec.instance shapes.now (spec.bound variables.now terms.now) pattern.now) }
 {
     match &pattern.node {
         PatternNode::Var(number, _) => bound(alloc, variables, terms, *number),
@@ -120,7 +125,9 @@ fn instances_onto(
     out: &mut Items<Term>,
     patterns: &[Pattern],
 ) -> Result<(), NoMemory>
-    ensures { IfOk result (λ _. out.new ≡ out.old ++ map (spec.instance shapes.now (spec.bound variables.now terms.now)) patterns.now) }
+    ensures { IfOk result (λ _.
+        out.new ≡ out.old ++ map
+        (spec.instance shapes.now (spec.bound variables.now terms.now)) patterns.now) }
 {
     match patterns {
         [] => Ok(()),

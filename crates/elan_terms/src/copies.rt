@@ -1,6 +1,6 @@
 //! Copies of terms and patterns.
 
-ghost use Rattle.std.specs.Prelude.{◌≡◌, ◌++◌, IfOk};
+ghost use Rattle.std.specs.Prelude.{◌≡◌, ◌≤◌, ◌++◌, length, take, IfOk, OnErr};
 
 use crate::{NoMemory, Pattern, PatternNode, Term, TermNode};
 use sqlite_items::Items;
@@ -18,7 +18,7 @@ pub fn copy(alloc: Global, term: &Term) -> Result<Term, NoMemory>
         }),
         TermNode::App(op, args) => {
             let mut copies = Items::new(alloc);
-            copy_onto(alloc, &mut copies, args.as_slice())?;
+            push_copies(alloc, &mut copies, args.as_slice())?;
             Ok(Term {
                 node: TermNode::App(*op, copies),
             })
@@ -26,16 +26,41 @@ pub fn copy(alloc: Global, term: &Term) -> Result<Term, NoMemory>
     }
 }
 
-/// Puts copies of the terms to the end, in order.
+// Where memory runs out, the copies made so far stay behind those that there were.
 #[cycle(copy)]
 #[tactic(auto, using(crate::proofs::WeightLemmas::falls))]
-pub fn copy_onto(alloc: Global, copies: &mut Items<Term>, terms: &[Term]) -> Result<(), NoMemory>
-    ensures { IfOk result (λ _. copies.new ≡ copies.old ++ terms.now) }
+fn push_copies(alloc: Global, copies: &mut Items<Term>, terms: &[Term]) -> Result<(), NoMemory>
+    ensures ok { IfOk result (λ _. copies.new ≡ copies.old ++ terms.now) }
+    ensures within { length copies.old ≤ length copies.new }
+    ensures kept { take (length copies.old) copies.new ≡ copies.old }
 {
     for term in terms {
         copies.push(copy(alloc, term)?)?;
     }
     Ok(())
+}
+
+// Takes terms off the end until so many are left.
+fn cut(terms: &mut Items<Term>, len: usize)
+    requires { len ≤ length terms.old }
+    ensures { terms.new ≡ take len terms.old }
+{
+    while len < terms.len() {
+        let _last = terms.pop();
+    }
+}
+
+/// Puts copies of the terms to the end, in order; where memory runs out, the list is as it was.
+pub fn copy_onto(alloc: Global, copies: &mut Items<Term>, terms: &[Term]) -> Result<(), NoMemory>
+    ensures ok { IfOk result (λ _. copies.new ≡ copies.old ++ terms.now) }
+    ensures err { OnErr result (copies.new ≡ copies.old) }
+{
+    let before = copies.len();
+    let done = push_copies(alloc, copies, terms);
+    if done.is_err() {
+        cut(copies, before);
+    }
+    done
 }
 
 /// A pattern of the same shape.

@@ -21,7 +21,8 @@ fn fits(
     term: &Term,
     values: &[Term],
 ) -> Result<bool, NoMemory>
-    ensures { IfOk result (λ yes. yes ≡ spec.fits shapes.now variables.now pattern.now term.now values.now) }
+    ensures { IfOk result (λ yes.
+        yes ≡ spec.fits shapes.now variables.now pattern.now term.now values.now) }
 {
     let made = instance(alloc, shapes, variables, values, pattern)?;
     Ok(compare(&made, term).is_eq())
@@ -35,7 +36,8 @@ fn kept(
     term: &Term,
     lists: Items<Items<Term>>,
 ) -> Result<Items<Items<Term>>, NoMemory>
-    ensures { IfOk result (λ all. all ≡ filter (spec.fits shapes.now variables.now pattern.now term.now) lists) }
+    ensures { IfOk result (λ all.
+        all ≡ filter (spec.fits shapes.now variables.now pattern.now term.now) lists) }
 {
     let mut out = Items::new(alloc);
     for list in lists.as_slice() {

@@ -55,7 +55,8 @@ fn nodes_onto(
     op: OpId,
     lists: &[Items<Term>],
 ) -> Result<(), NoMemory>
-    ensures { IfOk result (λ _. out.new ≡ out.old ++ map (app_term op) (filter (λ us. nat_lt 1 (length us)) lists.now)) }
+    ensures { IfOk result (λ _.
+        out.new ≡ out.old ++ map (app_term op) (filter (λ us. nat_lt 1 (length us)) lists.now)) }
 {
     for list in lists {
         if 1 < list.len() {

@@ -1,6 +1,6 @@
 use crate::{
     NoMemory, OpId, Pattern, PatternNode, Shape, Shapes, SortId, Term, TermNode, canon, compare,
-    copy, depth, is_deeper, matches, parts,
+    copy, depth, is_ascending, is_canonical, is_deeper, is_valid, matches, parts,
 };
 use sqlite_items::Items;
 use std::alloc::Global;
@@ -25,6 +25,24 @@ fn sets(alloc: Global) -> Result<Shapes, NoMemory> {
     Ok(Shapes { shapes, int: None })
 }
 
+// The same, with integers, of which 4 makes a set.
+fn sets_of_integers(alloc: Global) -> Result<Shapes, NoMemory> {
+    let mut shapes = sets(alloc)?;
+    shapes.shapes.push(Shape {
+        args: Items::from_slice(alloc, &[SortId(1)])?,
+        sort: SortId(0),
+        ac: false,
+    })?;
+    shapes.int = Some(SortId(1));
+    Ok(shapes)
+}
+
+fn integer(value: i64) -> Term {
+    Term {
+        node: TermNode::Int(value),
+    }
+}
+
 fn constant(alloc: Global, number: u32) -> Term {
     Term {
         node: TermNode::App(OpId(number), Items::new(alloc)),
@@ -37,6 +55,23 @@ fn union(alloc: Global, numbers: &[u32]) -> Result<Term, NoMemory> {
     for number in numbers {
         args.push(constant(alloc, *number))?;
     }
+    Ok(Term {
+        node: TermNode::App(OpId(3), args),
+    })
+}
+
+fn one(alloc: Global, number: u32, arg: Term) -> Result<Term, NoMemory> {
+    let mut args = Items::new(alloc);
+    args.push(arg)?;
+    Ok(Term {
+        node: TermNode::App(OpId(number), args),
+    })
+}
+
+fn pair(alloc: Global, first: Term, second: Term) -> Result<Term, NoMemory> {
+    let mut args = Items::new(alloc);
+    args.push(first)?;
+    args.push(second)?;
     Ok(Term {
         node: TermNode::App(OpId(3), args),
     })
@@ -159,5 +194,41 @@ fn a_constant_has_depth_one(rt: HostRuntime) -> Result<(), Fail> {
     assert_eq!(rt; depth(&union(alloc, &[0, 1])?), 2);
     assert_eq!(rt; is_deeper(&union(alloc, &[0, 1])?, 1), true);
     assert_eq!(rt; is_deeper(&union(alloc, &[0, 1])?, 2), false);
+    Ok(())
+}
+
+#[test]
+fn sorts_and_numbers_of_arguments_make_a_term_valid(rt: HostRuntime) -> Result<(), Fail> {
+    let alloc = rt.alloc();
+    let shapes = sets_of_integers(alloc)?;
+    assert!(rt; is_valid(&shapes, &union(alloc, &[2, 0, 1])?));
+    assert!(rt;
+        is_valid(
+            &shapes,
+            &one(alloc, 4, integer(-9_223_372_036_854_775_807))?
+        )
+    );
+    assert!(rt; !is_valid(&shapes, &union(alloc, &[0])?));
+    assert!(rt; !is_valid(&shapes, &pair(alloc, constant(alloc, 0), integer(7))?));
+    assert!(rt; !is_valid(&shapes, &one(alloc, 4, constant(alloc, 0))?));
+    assert!(rt; !is_valid(&shapes, &one(alloc, 0, constant(alloc, 0))?));
+    assert!(rt; !is_valid(&shapes, &constant(alloc, 4)));
+    assert!(rt; !is_valid(&shapes, &constant(alloc, 5)));
+    assert!(rt; !is_valid(&shapes, &integer(i64::MIN)));
+    Ok(())
+}
+
+#[test]
+fn a_term_that_is_flat_and_ascends_is_canonical(rt: HostRuntime) -> Result<(), Fail> {
+    let alloc = rt.alloc();
+    let shapes = sets(alloc)?;
+    let flat = union(alloc, &[0, 1, 2])?;
+    let nested = pair(alloc, union(alloc, &[0, 1])?, constant(alloc, 2))?;
+    assert!(rt; is_canonical(&shapes, &flat));
+    assert!(rt; is_canonical(&shapes, &union(alloc, &[0, 0, 1])?));
+    assert!(rt; !is_canonical(&shapes, &union(alloc, &[1, 0])?));
+    assert!(rt; !is_canonical(&shapes, &nested));
+    assert!(rt; is_ascending([constant(alloc, 0), constant(alloc, 0), flat].as_slice()));
+    assert!(rt; !is_ascending([nested, integer(3)].as_slice()));
     Ok(())
 }

@@ -1,4 +1,4 @@
-use Rattle.elan_laws.proofs.OrderLaws as laws
+use Rattle.elan_terms.proofs.OrderLaws as laws
 use Rattle.elan_laws.proofs.laws.order_by_heads.Goals as goal
 
 pub returns-clause-integers : goal.returns-clause-integers

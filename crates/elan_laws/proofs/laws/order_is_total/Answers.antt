@@ -1,4 +1,4 @@
-use Rattle.elan_laws.proofs.OrderLaws as laws
+use Rattle.elan_terms.proofs.OrderLaws as laws
 use Rattle.elan_laws.proofs.laws.order_is_total.Goals as goal
 
 pub returns-clause-equal : goal.returns-clause-equal

@@ -1,5 +1,5 @@
 use Rattle.elan_terms.specs.Weight.{weight, weights}
-use Rattle.elan_laws.proofs.canonical.+canonical.Given as goal
+use Rattle.elan_terms.proofs.settled.+canonical.Given as goal
 
 abbrev pub decreases-is_canonical : goal.decreases-is_canonical
 decreases-is_canonical l = weight l.term.now

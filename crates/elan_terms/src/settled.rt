@@ -2,10 +2,10 @@
 
 ghost use Rattle.std.specs.Prelude.{◌≡◌, ◌↔◌, IsTrue, IsFalse};
 ghost use Rattle.std.specs.List.{All};
-ghost use Rattle.elan_laws.specs.Ascending.{Ascends};
-ghost use Rattle.elan_laws.specs.Canonical as spec;
+ghost use Rattle.elan_terms.specs.Ascending.{Ascends};
+ghost use Rattle.elan_terms.specs.Canonical as spec;
 
-use elan_terms::{OpId, Shapes, Term, TermNode, compare, is_ac};
+use crate::{OpId, Shapes, Term, TermNode, compare, is_ac};
 
 /// Whether the terms ascend in the term order; equal ones may follow one another.
 pub fn is_ascending(terms: &[Term]) -> bool
@@ -47,7 +47,7 @@ fn is_settled(shapes: &Shapes, op: OpId, terms: &[Term]) -> bool
 /// Whether the term is in canonical form: no argument of an associative and commutative operator is
 /// headed by that operator, and its arguments ascend.
 #[cycle(canonical)]
-#[tactic(auto, using(elan_terms::proofs::WeightLemmas::falls))]
+#[tactic(auto, using(crate::proofs::WeightLemmas::falls))]
 pub fn is_canonical(shapes: &Shapes, term: &Term) -> bool
     ensures { IsTrue result ↔ spec.IsCanonical shapes.now term.now }
 {
@@ -60,7 +60,7 @@ pub fn is_canonical(shapes: &Shapes, term: &Term) -> bool
 }
 
 #[cycle(canonical)]
-#[tactic(auto, using(elan_terms::proofs::WeightLemmas::falls))]
+#[tactic(auto, using(crate::proofs::WeightLemmas::falls))]
 fn are_canonical(shapes: &Shapes, terms: &[Term]) -> bool
     ensures { IsTrue result ↔ All (spec.IsCanonical shapes.now) terms.now }
 {

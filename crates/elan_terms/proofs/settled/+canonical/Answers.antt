@@ -1,7 +1,7 @@
 use Rattle.std.proofs.Common.{subst}
-use Rattle.elan_laws.specs.Canonical.{IsSettled, IsCanonical}
-use Rattle.elan_laws.proofs.TestLemmas.{all_with_first, throughout_decides}
-use Rattle.elan_laws.proofs.canonical.+canonical.Goals as goal
+use Rattle.elan_terms.specs.Canonical.{IsSettled, IsCanonical}
+use Rattle.elan_terms.proofs.TestLemmas.{all_with_first, throughout_decides}
+use Rattle.elan_terms.proofs.settled.+canonical.Goals as goal
 
 pub are_canonical-returns-then-is_canonical : goal.are_canonical-returns-then-is_canonical
 are_canonical-returns-then-is_canonical t c =

@@ -2,9 +2,9 @@
 
 ghost use Rattle.std.specs.Prelude.{◌↔◌, IsTrue};
 ghost use Rattle.std.specs.List.{All, AllZip};
-ghost use Rattle.elan_laws.specs.Valid as spec;
+ghost use Rattle.elan_terms.specs.Valid as spec;
 
-use elan_terms::{OpId, Shape, Shapes, SortId, Term, TermNode, is_of_sort};
+use crate::{OpId, Shape, Shapes, SortId, Term, TermNode, is_of_sort};
 
 fn is_number(shapes: &Shapes, z: i64) -> bool
     ensures { IsTrue result ↔ spec.IsNumber shapes.now z }
@@ -56,7 +56,7 @@ fn is_allowed(shapes: &Shapes, op: OpId, terms: &[Term]) -> bool
 
 /// Whether the shapes allow each integer and each application in the term.
 #[cycle(valid)]
-#[tactic(auto, using(elan_terms::proofs::WeightLemmas::falls))]
+#[tactic(auto, using(crate::proofs::WeightLemmas::falls))]
 pub fn is_valid(shapes: &Shapes, term: &Term) -> bool
     ensures { IsTrue result ↔ spec.IsValid shapes.now term.now }
 {
@@ -69,7 +69,7 @@ pub fn is_valid(shapes: &Shapes, term: &Term) -> bool
 }
 
 #[cycle(valid)]
-#[tactic(auto, using(elan_terms::proofs::WeightLemmas::falls))]
+#[tactic(auto, using(crate::proofs::WeightLemmas::falls))]
 fn are_valid(shapes: &Shapes, terms: &[Term]) -> bool
     ensures { IsTrue result ↔ All (spec.IsValid shapes.now) terms.now }
 {

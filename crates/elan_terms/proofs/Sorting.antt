@@ -6,9 +6,9 @@ use Rattle.std.specs.Ordering.{ordering_reverse}
 use Rattle.std.proofs.lemmas.Cmp.{upto}
 use Rattle.elan_terms.specs.declared.tree.Term.{Term}
 use Rattle.elan_terms.specs.Term.{order, put_in, ascending}
-use Rattle.elan_laws.specs.Ascending.{NotAfter}
-use Rattle.elan_laws.proofs.Lists.{AllOf, Pairs, In, all_map}
-use Rattle.elan_laws.proofs.OrderLaws.{reversed, order_total}
+use Rattle.elan_terms.specs.Ascending.{NotAfter}
+use Rattle.elan_terms.proofs.Lists.{AllOf, Pairs, In, all_map}
+use Rattle.elan_terms.proofs.OrderLaws.{reversed, order_total}
 
 pub not_true : {A : Type 0} → true ≡ false → A
 not_true e = absurd (no e)

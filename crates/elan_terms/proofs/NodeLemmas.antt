@@ -8,9 +8,9 @@ use Rattle.elan_terms.specs.declared.tree.Shape.{Shape}
 use Rattle.elan_terms.specs.declared.tree.Shapes.{Shapes}
 use Rattle.elan_terms.specs.Trees.{app_term}
 use Rattle.elan_terms.specs.Term.{is_ac, shape_ac}
-use Rattle.elan_laws.specs.Nodes.{EachOfRow, Throughout}
-use Rattle.elan_laws.specs.Valid.{IsNumber, MayTake, IsAllowed, IsValid}
-use Rattle.elan_laws.proofs.Lists.{AllOf}
+use Rattle.elan_terms.specs.Nodes.{EachOfRow, Throughout}
+use Rattle.elan_terms.specs.Valid.{IsNumber, MayTake, IsAllowed, IsValid}
+use Rattle.elan_terms.proofs.Lists.{AllOf}
 
 module _ (Int : ℤ → Type 0) (App : OpId → List Term → Type 0) where
   row_all : {n : _} (row : term.Row_of-Term n) → EachOfRow Int App row → AllOf (Throughout Int App) (term.items-the_row-Term n row)

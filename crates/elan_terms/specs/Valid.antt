@@ -7,7 +7,7 @@ use Rattle.elan_terms.specs.declared.tree.Term.{Term}
 use Rattle.elan_terms.specs.declared.tree.Shape.{Shape}
 use Rattle.elan_terms.specs.declared.tree.Shapes.{Shapes}
 use Rattle.elan_terms.specs.Term.{sort_of}
-use Rattle.elan_laws.specs.Nodes.{Throughout}
+use Rattle.elan_terms.specs.Nodes.{Throughout}
 
 -- the sort of a term is there and is this one
 abbrev pub HasSort : Shapes → Term → SortId → Type 0

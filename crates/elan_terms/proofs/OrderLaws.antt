@@ -12,7 +12,7 @@ use Rattle.elan_terms.specs.Trees.{int_term, app_term}
 use Rattle.elan_terms.specs.Term.{order}
 use Rattle.elan_terms.proofs.TermLemmas.{order-int_int, order-int_app, order-app_int, order-app_app}
 use Rattle.elan_terms.proofs.OrderLemmas.{order-equal, order-itself}
-use Rattle.elan_laws.proofs.Induction.{AllOf, ind_term, cases_term}
+use Rattle.elan_terms.proofs.Induction.{AllOf, ind_term, cases_term}
 
 -- ---- the equations
 

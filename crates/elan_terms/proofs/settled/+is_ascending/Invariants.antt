@@ -1,5 +1,5 @@
 use Rattle.std.proofs.Common.{length}
-use Rattle.elan_laws.proofs.canonical.+is_ascending.Given as goal
+use Rattle.elan_terms.proofs.settled.+is_ascending.Given as goal
 
 abbrev pub decreases-is_ascending : goal.decreases-is_ascending
 decreases-is_ascending l = length l.terms.now

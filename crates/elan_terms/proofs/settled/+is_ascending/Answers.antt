@@ -1,6 +1,6 @@
 use Rattle.std.proofs.Common.{sym, ap, ◌∙◌, not, is_gt}
-use Rattle.elan_laws.proofs.TestLemmas.{ascends_more, ascends_not}
-use Rattle.elan_laws.proofs.canonical.+is_ascending.Goals as goal
+use Rattle.elan_terms.proofs.TestLemmas.{ascends_more, ascends_not}
+use Rattle.elan_terms.proofs.settled.+is_ascending.Goals as goal
 
 pub returns-then-not-is_gt : goal.returns-then-not-is_gt
 returns-then-not-is_gt t c =

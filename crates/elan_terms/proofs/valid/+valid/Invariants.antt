@@ -1,5 +1,5 @@
 use Rattle.elan_terms.specs.Weight.{weight, weights}
-use Rattle.elan_laws.proofs.valid.+valid.Given as goal
+use Rattle.elan_terms.proofs.valid.+valid.Given as goal
 
 abbrev pub decreases-is_valid : goal.decreases-is_valid
 decreases-is_valid l = weight l.term.now

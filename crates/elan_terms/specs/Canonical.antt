@@ -6,8 +6,8 @@ use Rattle.elan_terms.specs.declared.tree.Term.{Term}
 use Rattle.elan_terms.specs.declared.tree.Shapes.{Shapes}
 use Rattle.elan_terms.specs.Trees.{case_term}
 use Rattle.elan_terms.specs.Term.{is_ac}
-use Rattle.elan_laws.specs.Nodes.{Throughout}
-use Rattle.elan_laws.specs.Ascending.{Ascends}
+use Rattle.elan_terms.specs.Nodes.{Throughout}
+use Rattle.elan_terms.specs.Ascending.{Ascends}
 
 -- whether a term is an application of this operator
 abbrev pub is_headed : OpId → Term → Bool

@@ -1,7 +1,7 @@
 use Rattle.std.proofs.Common.{subst}
-use Rattle.elan_laws.specs.Valid.{IsNumber, IsAllowed, IsValid}
-use Rattle.elan_laws.proofs.TestLemmas.{all_with_first, throughout_decides}
-use Rattle.elan_laws.proofs.valid.+valid.Goals as goal
+use Rattle.elan_terms.specs.Valid.{IsNumber, IsAllowed, IsValid}
+use Rattle.elan_terms.proofs.TestLemmas.{all_with_first, throughout_decides}
+use Rattle.elan_terms.proofs.valid.+valid.Goals as goal
 
 pub are_valid-returns-then-is_valid : goal.are_valid-returns-then-is_valid
 are_valid-returns-then-is_valid t c =

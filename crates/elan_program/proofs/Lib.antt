@@ -5,3 +5,4 @@ pub mod ShapeLemmas
 pub mod PatternLemmas
 pub mod ValidLemmas
 pub mod ChainLemmas
+pub mod ActualLemmas

@@ -1,6 +1,7 @@
 -- The equations of a recursion over strategies.
-use Rattle.std.proofs.Common.{◌≡◌, refl, ap, ◌∙◌, Bool, List, ◌∷◌, map}
+use Rattle.std.proofs.Common.{◌≡◌, refl, ap, ◌∙◌, ℕ, Bool, List, ◌∷◌, map}
 use denote.Hole.Carrier.{hidden}
+use Rattle.elan_terms.specs.declared.tree.OpId.{OpId}
 use Rattle.elan_terms.specs.declared.tree.SortId.{SortId}
 use Rattle.elan_program.specs.declared.strategy.Strategy.{Strategy}
 use Rattle.elan_program.specs.declared.strategy.StrategyNode.{Row_of-Strategy, end_of-Strategy, more_of-Strategy, items-the_row-Strategy, items_hidden-the_row-Strategy-0}
@@ -20,6 +21,12 @@ module _ {A : Type 0} (step : Layer (Strategy × A) → A) where
   para_row-hidden : (ss : List Strategy) → para_row step (hidden-the_row-Strategy-0 ss) ≡ map with_own ss
   para_row-hidden ss = para_row-items (hidden-the_row-Strategy-0 ss) ∙ ap (map with_own) (items_hidden-the_row-Strategy-0 ss)
 
+  pub para-call : (number : ℕ) (ss : List Strategy) → para_node step (node.Call number ss) ≡ step (layer.Call number (map with_own ss))
+  para-call number ss = ap (λ r. step (layer.Call number r)) (para_row-hidden ss)
+
+  pub para-cong : (op : OpId) (ss : List Strategy) → para_node step (node.Cong op ss) ≡ step (layer.Cong op (map with_own ss))
+  para-cong op ss = ap (λ r. step (layer.Cong op r)) (para_row-hidden ss)
+
   pub para-seq : (ss : List Strategy) → para_node step (node.Seq ss) ≡ step (layer.Seq (map with_own ss))
   para-seq ss = ap (λ r. step (layer.Seq r)) (para_row-hidden ss)
 
@@ -36,6 +43,10 @@ module _ {A : Type 0} (step : Layer (Strategy × A) → A) where
   pub para-iterate : (s : Strategy) → para_node step (node.Iterate s) ≡ step (layer.Iterate (with_own s))
   unfolding shape-the_row-Strategy-0 hidden-the_row-Strategy-0 shown-the_row-Strategy-0 shape-the_row-Strategy-1 hidden-the_row-Strategy-1 hidden
   para-iterate s = refl
+
+  pub para-iterate_plus : (s : Strategy) → para_node step (node.IteratePlus s) ≡ step (layer.IteratePlus (with_own s))
+  unfolding shape-the_row-Strategy-0 hidden-the_row-Strategy-0 shown-the_row-Strategy-0 shape-the_row-Strategy-1 hidden-the_row-Strategy-1 hidden
+  para-iterate_plus s = refl
 
   pub para-normalise : (sort : SortId) (s : Strategy) → para_node step (node.Normalise sort s) ≡ step (layer.Normalise sort (with_own s))
   unfolding shape-the_row-Strategy-0 hidden-the_row-Strategy-0 shown-the_row-Strategy-0 shape-the_row-Strategy-1 hidden-the_row-Strategy-1 hidden

@@ -13,7 +13,7 @@ use Rattle.elan_program.specs.declared.signature.Signature.{Signature}
 use Rattle.elan_program.specs.declared.program.Clause.{Clause}
 use Rattle.elan_program.specs.declared.program.Clause.TheVariants.{If, Where}
 use Rattle.elan_program.specs.declared.program.Rule.{Rule}
-use Rattle.elan_program.specs.declared.program.Program.{Program}
+use Rattle.elan_program.specs.declared.program.Parts.{Parts}
 use Rattle.elan_program.specs.Signature.{shapes_of}
 
 -- ---- patterns
@@ -97,6 +97,6 @@ optional (Some r) = r ∷ []
 unfoldable pub tried_by : Signature → Rule → List Rule
 tried_by g r = if_unlabelled r.label (r ∷ optional (extension g r)) []
 
--- the unlabelled rules of a program in the order in which they are tried
-unfoldable pub unlabelled : Program → List Rule
+-- the unlabelled rules of a program's parts in the order in which they are tried
+unfoldable pub unlabelled : Parts → List Rule
 unlabelled p = flat_map (tried_by p.signature) p.rules

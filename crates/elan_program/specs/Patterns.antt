@@ -1,7 +1,6 @@
 -- Which patterns are well-sorted, and which variables they use and bind.
 use Rattle.std.specs.Prelude.{ℕ, suc, ◌^◌, ℤ, unsigned_abs, Bool, true, false, ◌&&◌, ◌==◌, if◌then◌else◌, nat_lt, nat_le, Option, Some, None, List, [], ◌∷◌, length, slice_get}
 use Rattle.std.specs.List.{list_all, list_any}
-use Rattle.elan_terms.specs.declared.tree.OpId.{OpId}
 use Rattle.elan_terms.specs.declared.tree.SortId.{SortId}
 use Rattle.elan_terms.specs.declared.tree.Shape.{Shape}
 use Rattle.elan_terms.specs.declared.tree.Shapes.{Shapes}

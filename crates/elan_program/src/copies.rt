@@ -65,7 +65,10 @@ pub fn copy_strategy(alloc: Global, strategy: &Strategy) -> Result<Strategy, NoM
         StrategyNode::Label(rules) => {
             StrategyNode::Label(Items::from_slice(alloc, rules.as_slice())?)
         }
-        StrategyNode::Call(number) => StrategyNode::Call(*number),
+        StrategyNode::Call(number, actuals) => {
+            StrategyNode::Call(*number, copy_arms(alloc, actuals.as_slice())?)
+        }
+        StrategyNode::Param(number) => StrategyNode::Param(*number),
         StrategyNode::Seq(arms) => StrategyNode::Seq(copy_arms(alloc, arms.as_slice())?),
         StrategyNode::All(arms) => StrategyNode::All(copy_arms(alloc, arms.as_slice())?),
         StrategyNode::First { one, arms } => StrategyNode::First {
@@ -74,8 +77,14 @@ pub fn copy_strategy(alloc: Global, strategy: &Strategy) -> Result<Strategy, NoM
         },
         StrategyNode::Repeat(inner) => StrategyNode::Repeat(copy_inner(alloc, inner.get())?),
         StrategyNode::Iterate(inner) => StrategyNode::Iterate(copy_inner(alloc, inner.get())?),
+        StrategyNode::IteratePlus(inner) => {
+            StrategyNode::IteratePlus(copy_inner(alloc, inner.get())?)
+        }
         StrategyNode::Normalise(sort, inner) => {
             StrategyNode::Normalise(*sort, copy_inner(alloc, inner.get())?)
+        }
+        StrategyNode::Cong(op, arms) => {
+            StrategyNode::Cong(*op, copy_arms(alloc, arms.as_slice())?)
         }
     };
     Ok(Strategy { node })

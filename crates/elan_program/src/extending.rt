@@ -3,7 +3,7 @@
 ghost use Rattle.std.specs.Prelude.{◌≡◌, ◌∷◌, [], ◌++◌, map, IfOk};
 ghost use Rattle.elan_program.specs.Extension as spec;
 
-use crate::{Clause, Program, Rule, Signature, copy_rule, copy_strategy};
+use crate::{Clause, Parts, Rule, Signature, copy_rule, copy_strategy};
 use elan_terms::{OpId, Pattern, PatternNode, SortId, copy_pattern, variables};
 use elan_text::NoMemory;
 use sqlite_items::Items;
@@ -93,7 +93,8 @@ fn with_variable(
     number: u32,
     sort: SortId,
 ) -> Result<Pattern, NoMemory>
-    ensures { IfOk result (λ p. p ≡ spec.app_pattern op (pattern ∷ spec.var_pattern number sort ∷ [])) }
+    ensures { IfOk result
+        (λ p. p ≡ spec.app_pattern op (pattern ∷ spec.var_pattern number sort ∷ [])) }
 {
     let mut args = Items::new(alloc);
     args.push(pattern)?;
@@ -201,12 +202,12 @@ fn tried_by(alloc: Global, signature: &Signature, rule: &Rule) -> Result<Items<R
 /// The unlabelled rules in the order in which they are tried, each with its extension directly
 /// after it.
 #[tactic(auto, unfolding(crate::specs::Extension::unlabelled))]
-pub fn unlabelled(alloc: Global, program: &Program) -> Result<Items<Rule>, NoMemory>
-    ensures { IfOk result (λ rules. rules ≡ spec.unlabelled program.now) }
+pub(crate) fn unlabelled(alloc: Global, parts: &Parts) -> Result<Items<Rule>, NoMemory>
+    ensures { IfOk result (λ rules. rules ≡ spec.unlabelled parts.now) }
 {
     let mut out = Items::new(alloc);
-    for rule in program.rules() {
-        let rules = tried_by(alloc, program.signature(), rule)?;
+    for rule in parts.rules.as_slice() {
+        let rules = tried_by(alloc, &parts.signature, rule)?;
         out.append(rules)?;
     }
     Ok(out)

@@ -15,9 +15,9 @@ mod tests;
 mod valid;
 
 pub use copies::{copy_clause, copy_name, copy_rule, copy_strategy};
-pub use extending::{extension, unlabelled};
+pub use extending::extension;
 pub use program::{Clause, Named, Parts, Program, Rule};
 pub use signature::{Assoc, Builtin, Operator, Piece, Signature, Truth};
 pub use sound::holes;
 pub use spelling::is_name;
-pub use strategy::{Strategy, StrategyNode};
+pub use strategy::{Scope, Strategy, StrategyNode};

@@ -70,7 +70,9 @@ fn args_fit(shapes: &Shapes, shape: &Shape, args: &[Pattern]) -> bool
 #[cycle(pattern_sort)]
 #[tactic(auto, using(crate::proofs::PatternLemmas::sort_rules))]
 fn sort_over(shapes: &Shapes, op: OpId, args: &[Pattern]) -> Option<SortId>
-    ensures { result ≡ spec.sort_over (slice_get shapes.now.shapes op.0) (map (spec.pattern_sort shapes.now) args.now) }
+    ensures { result
+        ≡ spec.sort_over (slice_get shapes.now.shapes op.0)
+        (map (spec.pattern_sort shapes.now) args.now) }
 {
     match shapes.shapes.get(op.0 as usize) {
         None => None,

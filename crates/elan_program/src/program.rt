@@ -5,7 +5,7 @@ ghost use Rattle.std.specs.Option.{option_and_then};
 ghost use Rattle.elan_program.specs.Extension as spec;
 ghost use Rattle.elan_program.specs.Validity.{IsValid};
 
-use crate::extending::extensions;
+use crate::extending::{extensions, unlabelled};
 use crate::{Signature, Strategy};
 use elan_terms::{Pattern, SortId};
 use elan_text::{Name, NoMemory};
@@ -36,15 +36,18 @@ pub struct Rule {
     pub clauses: Items<Clause>,
 }
 
-/// A strategy with a name.
+/// A strategy with a name. It is for terms of its sort, and so are the actuals of its parameters.
 #[derive(Debug, Drop)]
 pub struct Named {
     pub name: Name,
     pub sort: SortId,
+    /// How many parameters it has.
+    pub parameters: u32,
     pub body: Strategy,
 }
 
-/// What a program is made of: a signature with rules and named strategies, each known by its place in its list.
+/// What a program is made of: a signature with rules and named strategies, each known by its place
+/// in its list.
 #[derive(Debug, Drop)]
 pub struct Parts {
     pub signature: Signature,
@@ -54,11 +57,13 @@ pub struct Parts {
 
 /// A valid program. Contracts see its parts.
 ///
-/// docs/LANGUAGE.md says what is valid. The extension rule of each rule that has one is made once and kept.
+/// docs/LANGUAGE.md says what is valid. The extension rule of each rule that has one, and the list
+/// of the rules that normalising tries, are made once and kept.
 #[derive(Debug, Drop)]
 pub struct Program {
     parts: Parts,
     extensions: Items<Option<Rule>>,
+    tried: Items<Rule>,
 }
 
 impl Model for Program {
@@ -74,15 +79,16 @@ impl Model for Program {
 
     ghost view = { λ p. p.parts };
 
-    ghost use Rattle.elan_program.specs.Extension.{extension};
+    ghost use Rattle.elan_program.specs.Extension.{extension, unlabelled};
     ghost use Rattle.elan_program.specs.Validity.{IsValid};
 
-    ghost invariant = { λ p. IsValid p.parts × (p.extensions ≡ map (extension p.parts.signature) p.parts.rules) };
+    ghost invariant = { λ p. IsValid p.parts × (p.extensions ≡ map (extension p.parts.signature) p.parts.rules)
+        × (p.tried ≡ unlabelled p.parts) };
 }
 
 impl Program {
-    /// The program of valid parts. `Parts::is_valid` tells whether they are. The numbers of rules and of named strategies
-    /// are their places in these lists.
+    /// The program of valid parts. `Parts::is_valid` tells whether they are. The numbers of rules
+    /// and of named strategies are their places in these lists.
     pub fn new(
         alloc: Global,
         signature: Signature,
@@ -90,16 +96,20 @@ impl Program {
         named: Items<Named>,
     ) -> Result<Program, NoMemory>
         requires { IsValid record { signature = signature; rules = rules; named = named } }
-        ensures { IfOk result (λ p. p ≡ record { signature = signature; rules = rules; named = named }) }
+        ensures { IfOk result
+            (λ p. p ≡ record { signature = signature; rules = rules; named = named }) }
     {
         let extensions = extensions(alloc, &signature, rules.as_slice())?;
+        let parts = Parts {
+            signature,
+            rules,
+            named,
+        };
+        let tried = unlabelled(alloc, &parts)?;
         Ok(Program {
-            parts: Parts {
-                signature,
-                rules,
-                named,
-            },
+            parts,
             extensions,
+            tried,
         })
     }
 
@@ -135,9 +145,21 @@ impl Program {
     /// The extension rule of the rule of this number: `None` exactly where that rule has none.
     pub fn extension(&self, rule: u32) -> Option<&Rule>
         requires { rule < length self.now.rules }
-        ensures found { IfSome result (λ r. option_and_then (spec.extension self.now.signature) (slice_get self.now.rules rule) ≡ Some r.now) }
-        ensures absent { IfNone result (option_and_then (spec.extension self.now.signature) (slice_get self.now.rules rule) ≡ None) }
+        ensures found { IfSome result (λ r.
+            option_and_then (spec.extension self.now.signature) (slice_get self.now.rules rule)
+            ≡ Some r.now) }
+        ensures absent { IfNone result
+            (option_and_then (spec.extension self.now.signature)
+            (slice_get self.now.rules rule) ≡ None) }
     {
         self.extensions.as_slice()[rule as usize].as_ref()
+    }
+
+    /// The unlabelled rules in the order in which they are tried, each with its extension rule
+    /// directly after it.
+    pub fn unlabelled(&self) -> &[Rule]
+        ensures { result.now ≡ spec.unlabelled self.now }
+    {
+        self.tried.as_slice()
     }
 }

@@ -226,7 +226,9 @@ type Lead = (u32, u32);
 
 /// Adds from where to where an operator leads, if it is an injection.
 fn lead_onto(out: &mut Items<Lead>, operator: &Operator) -> Result<(), NoMemory>
-    ensures { IfOk result (λ _. out.new ≡ out.old ++ spec.leads operator.now.pieces operator.now.args operator.now.sort) }
+    ensures { IfOk result (λ _.
+        out.new
+        ≡ out.old ++ spec.leads operator.now.pieces operator.now.args operator.now.sort) }
 {
     match (operator.pieces.as_slice(), operator.args.as_slice()) {
         ([Piece::Hole], [arg]) => {
@@ -238,7 +240,9 @@ fn lead_onto(out: &mut Items<Lead>, operator: &Operator) -> Result<(), NoMemory>
 }
 
 fn leads_onto(out: &mut Items<Lead>, operators: &[Operator]) -> Result<(), NoMemory>
-    ensures { IfOk result (λ _. out.new ≡ out.old ++ flat_map (λ o. spec.leads o.pieces o.args o.sort) operators.now) }
+    ensures { IfOk result (λ _.
+        out.new
+        ≡ out.old ++ flat_map (λ o. spec.leads o.pieces o.args o.sort) operators.now) }
 {
     match operators {
         [] => Ok(()),
@@ -260,7 +264,9 @@ fn goes_on(others: &[Lead], lead: Lead) -> bool
 }
 
 fn led_on_onto(out: &mut Items<Lead>, others: &[Lead], leads: &[Lead]) -> Result<(), NoMemory>
-    ensures { IfOk result (λ _. out.new ≡ out.old ++ filter (λ i. list_any (λ j. j.0 == i.1) others.now) leads.now) }
+    ensures { IfOk result (λ _.
+        out.new
+        ≡ out.old ++ filter (λ i. list_any (λ j. j.0 == i.1) others.now) leads.now) }
 {
     match leads {
         [] => Ok(()),
@@ -294,8 +300,8 @@ fn chains(alloc: Global, leads: &[Lead], count: usize) -> Result<Items<Lead>, No
     led_on(alloc, shorter.as_slice(), leads)
 }
 
-/// Whether no injections lead a sort back to itself. The time grows with the number of sorts and the square of the number
-/// of injections.
+/// Whether no injections lead a sort back to itself. The time grows with the number of sorts and
+/// the square of the number of injections.
 #[tactic(auto, unfolding(crate::specs::Soundness::has_no_cycle, crate::specs::Soundness::injections))]
 fn has_no_cycle(alloc: Global, signature: &Signature) -> Result<bool, NoMemory>
     ensures { IfOk result (λ ok. ok ≡ spec.has_no_cycle signature.now) }

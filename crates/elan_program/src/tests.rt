@@ -1,8 +1,8 @@
 //! What no clause says: calls with ample memory.
 
 use crate::{
-    Assoc, Builtin, Clause, Operator, Parts, Piece, Program, Rule, Signature, Strategy,
-    StrategyNode, copy_clause, copy_name, copy_rule, copy_strategy, extension, unlabelled,
+    Assoc, Builtin, Clause, Named, Operator, Parts, Piece, Program, Rule, Signature, Strategy,
+    StrategyNode, copy_clause, copy_name, copy_rule, copy_strategy, extension,
 };
 use elan_terms::{OpId, Pattern, PatternNode, SortId};
 use elan_text::{Name, NoMemory};
@@ -143,7 +143,7 @@ fn an_extension_stands_directly_after_its_rule(rt: HostRuntime) -> Result<(), Fa
         return Ok(());
     };
     let mut numbers = Vec::new(alloc);
-    for rule in unlabelled(alloc, &program)?.as_slice() {
+    for rule in program.unlabelled() {
         numbers_onto(&mut numbers, &rule.left)?;
     }
     assert_eq!(rt; numbers.as_slice(), [0, 1, 0, 1, 2, 0, 1].as_slice());
@@ -286,6 +286,74 @@ fn parts_with_a_fault_are_not_valid(rt: HostRuntime) -> Result<(), Fail> {
     Ok(())
 }
 
+// So many times `id`.
+fn identities(alloc: Global, count: usize) -> Result<Items<Strategy>, NoMemory> {
+    let mut out = Items::new(alloc);
+    for _ in 0..count {
+        out.push(Strategy {
+            node: StrategyNode::Id,
+        })?;
+    }
+    Ok(out)
+}
+
+// twice(X) => X;X
+fn twice(alloc: Global) -> Result<Named, NoMemory> {
+    let mut both = Items::new(alloc);
+    for _ in 0..2 {
+        both.push(Strategy {
+            node: StrategyNode::Param(0),
+        })?;
+    }
+    Ok(Named {
+        name: Name::new(alloc, b"twice")?,
+        sort: SORT,
+        parameters: 1,
+        body: Strategy {
+            node: StrategyNode::Seq(both),
+        },
+    })
+}
+
+// The parts with `twice` and with a rule that uses a strategy.
+fn with_strategy(alloc: Global, node: StrategyNode) -> Result<Parts, NoMemory> {
+    let mut clauses = Items::new(alloc);
+    clauses.push(Clause::Where {
+        left: variable(2),
+        by: Strategy { node },
+        of: variable(0),
+    })?;
+    let mut using = rule(alloc, 1)?;
+    using.clauses = clauses;
+    let mut parts = parts(alloc)?;
+    parts.named.push(twice(alloc)?)?;
+    parts.rules.push(using)?;
+    Ok(parts)
+}
+
+#[test]
+fn calls_and_congruences_have_what_they_need(rt: HostRuntime) -> Result<(), Fail> {
+    let alloc = rt.alloc();
+    let call = StrategyNode::Call(0, identities(alloc, 1)?);
+    assert!(rt; with_strategy(alloc, call)?.is_valid(alloc)?);
+    let plus = StrategyNode::Cong(OpId(1), identities(alloc, 2)?);
+    assert!(rt; with_strategy(alloc, plus)?.is_valid(alloc)?);
+
+    let parameter = StrategyNode::Param(0);
+    assert!(rt; !with_strategy(alloc, parameter)?.is_valid(alloc)?);
+    let bare = StrategyNode::Call(0, identities(alloc, 0)?);
+    assert!(rt; !with_strategy(alloc, bare)?.is_valid(alloc)?);
+    let absent = StrategyNode::Call(1, identities(alloc, 1)?);
+    assert!(rt; !with_strategy(alloc, absent)?.is_valid(alloc)?);
+    let commutative = StrategyNode::Cong(OpId(0), identities(alloc, 2)?);
+    assert!(rt; !with_strategy(alloc, commutative)?.is_valid(alloc)?);
+    let short = StrategyNode::Cong(OpId(1), identities(alloc, 1)?);
+    assert!(rt; !with_strategy(alloc, short)?.is_valid(alloc)?);
+    let unknown = StrategyNode::Cong(OpId(2), identities(alloc, 2)?);
+    assert!(rt; !with_strategy(alloc, unknown)?.is_valid(alloc)?);
+    Ok(())
+}
+
 #[test]
 fn shapes_keep_what_terms_need(rt: HostRuntime) -> Result<(), Fail> {
     let alloc = rt.alloc();
@@ -315,7 +383,7 @@ fn copies_have_the_same_parts(rt: HostRuntime) -> Result<(), Fail> {
             node: StrategyNode::Repeat(Boxed::new(
                 alloc,
                 Strategy {
-                    node: StrategyNode::Call(7),
+                    node: StrategyNode::Call(7, Items::new(alloc)),
                 },
             )?),
         };

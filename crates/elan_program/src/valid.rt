@@ -1,6 +1,6 @@
 //! Whether strategies, conditions, rules and programs are valid.
 
-ghost use Rattle.std.specs.Prelude.{◌≡◌, ◌++◌, IfOk, length, slice_get};
+ghost use Rattle.std.specs.Prelude.{◌≡◌, ◌++◌, IfOk, IfSome, IfNone, None, Some, length, slice_get};
 ghost use Rattle.std.specs.List.{list_all};
 ghost use Rattle.elan_terms.specs.Match as match_spec;
 ghost use Rattle.elan_program.specs.Signature.{shapes_of};
@@ -8,8 +8,8 @@ ghost use Rattle.elan_program.specs.Validity as spec;
 
 use crate::patterns::{binds, pattern_sort, uses};
 use crate::sound::{MOST, has_sort_id, is_sort, is_sound, same_sort, truth_sort};
-use crate::{Clause, Named, Parts, Rule, Strategy, StrategyNode};
-use elan_terms::{Pattern, Shapes, SortId, variables};
+use crate::{Clause, Named, Parts, Rule, Scope, Signature, Strategy, StrategyNode};
+use elan_terms::{OpId, Pattern, Shapes, SortId, variables};
 use elan_text::NoMemory;
 use sqlite_items::Items;
 use std::alloc::Global;
@@ -54,47 +54,117 @@ fn is_valid_label(parts: &Parts, sort: SortId, numbers: &[u32]) -> bool
     do_ascend(numbers) && are_rules_for(parts.rules.as_slice(), sort, numbers)
 }
 
-fn is_named_for(named: &[Named], sort: SortId, number: u32) -> bool
-    ensures { result ≡ spec.is_named_for sort (slice_get named.now number) }
+fn is_valid_param(scope: Scope, sort: SortId, number: u32) -> bool
+    ensures { result ≡ spec.is_valid_param scope sort number }
+{
+    match scope {
+        Scope::Outside => false,
+        Scope::Inside(count, own) => number < count && same_sort(own, sort),
+    }
+}
+
+fn is_named_for(named: &[Named], sort: SortId, count: usize, number: u32) -> bool
+    ensures { result ≡ spec.is_named_for sort count (slice_get named.now number) }
 {
     match named.get(number as usize) {
         None => false,
-        Some(there) => same_sort(there.sort, sort),
+        Some(there) => same_sort(there.sort, sort) && there.parameters as usize == count,
+    }
+}
+
+/// The sorts of the arguments of an operator that is there and is not associative and commutative.
+fn congruent_sorts(signature: &Signature, op: OpId) -> Option<&[SortId]>
+    ensures found { IfSome result (λ sorts.
+        spec.congruent_sorts (slice_get signature.now.operators op.0) ≡ Some sorts.now) }
+    ensures absent { IfNone result (spec.congruent_sorts (slice_get signature.now.operators op.0)
+        ≡ None) }
+{
+    match signature.operators.as_slice().get(op.0 as usize) {
+        None => None,
+        Some(operator) => {
+            if operator.ac {
+                None
+            } else {
+                Some(operator.args.as_slice())
+            }
+        }
     }
 }
 
 #[cycle(is_valid_strategy)]
 #[tactic(auto, using(crate::proofs::ValidLemmas::strategy_rules))]
-fn are_valid_strategies(parts: &Parts, sort: SortId, strategies: &[Strategy]) -> bool
-    ensures { result ≡ list_all (spec.is_valid_strategy parts.now.rules parts.now.named sort) strategies.now }
+fn are_valid_strategies(parts: &Parts, scope: Scope, strategies: &[Strategy], sort: SortId) -> bool
+    ensures { result
+        ≡ list_all (λ s. spec.is_valid_strategy parts.now scope s sort) strategies.now }
 {
     match strategies {
         [] => true,
         [first, rest @ ..] => {
-            is_valid_strategy(parts, sort, first) && are_valid_strategies(parts, sort, rest)
+            is_valid_strategy(parts, scope, first, sort)
+                && are_valid_strategies(parts, scope, rest, sort)
         }
+    }
+}
+
+/// Whether each strategy is valid at the sort of its place.
+#[cycle(is_valid_strategy)]
+#[tactic(auto, using(crate::proofs::ValidLemmas::strategy_rules))]
+fn are_valid_each(parts: &Parts, scope: Scope, strategies: &[Strategy], sorts: &[SortId]) -> bool
+    ensures { result
+        ≡ spec.each_fits (spec.is_valid_strategy parts.now scope) strategies.now sorts.now }
+{
+    match strategies {
+        [] => sorts.is_empty(),
+        [first, rest @ ..] => match sorts {
+            [] => false,
+            [sort, others @ ..] => {
+                is_valid_strategy(parts, scope, first, *sort)
+                    && are_valid_each(parts, scope, rest, others)
+            }
+        },
     }
 }
 
 /// Whether a strategy is valid at a sort.
 #[cycle(is_valid_strategy)]
 #[tactic(auto, using(crate::proofs::ValidLemmas::strategy_rules))]
-fn is_valid_strategy(parts: &Parts, sort: SortId, strategy: &Strategy) -> bool
-    ensures { result ≡ spec.is_valid_strategy parts.now.rules parts.now.named sort strategy.now }
+fn is_valid_strategy(parts: &Parts, scope: Scope, strategy: &Strategy, sort: SortId) -> bool
+    ensures { result ≡ spec.is_valid_strategy parts.now scope strategy.now sort }
 {
     match &strategy.node {
         StrategyNode::Id => true,
         StrategyNode::Fail => true,
         StrategyNode::Label(numbers) => is_valid_label(parts, sort, numbers.as_slice()),
-        StrategyNode::Call(number) => is_named_for(parts.named.as_slice(), sort, *number),
-        StrategyNode::Seq(all) => are_valid_strategies(parts, sort, all.as_slice()),
-        StrategyNode::All(all) => are_valid_strategies(parts, sort, all.as_slice()),
-        StrategyNode::First { one: _, arms } => are_valid_strategies(parts, sort, arms.as_slice()),
-        StrategyNode::Repeat(inner) => is_valid_strategy(parts, sort, inner.get()),
-        StrategyNode::Iterate(inner) => is_valid_strategy(parts, sort, inner.get()),
-        StrategyNode::Normalise(place, inner) => {
-            same_sort(*place, sort) && is_valid_strategy(parts, sort, inner.get())
+        StrategyNode::Call(number, actuals) => {
+            is_named_for(parts.named.as_slice(), sort, actuals.len(), *number)
+                && are_valid_strategies(parts, scope, actuals.as_slice(), sort)
         }
+        StrategyNode::Param(number) => is_valid_param(scope, sort, *number),
+        StrategyNode::Seq(all) => are_valid_strategies(parts, scope, all.as_slice(), sort),
+        StrategyNode::All(all) => are_valid_strategies(parts, scope, all.as_slice(), sort),
+        StrategyNode::First { one: _, arms } => {
+            are_valid_strategies(parts, scope, arms.as_slice(), sort)
+        }
+        StrategyNode::Repeat(inner) => is_valid_strategy(parts, scope, inner.get(), sort),
+        StrategyNode::Iterate(inner) => is_valid_strategy(parts, scope, inner.get(), sort),
+        StrategyNode::IteratePlus(inner) => is_valid_strategy(parts, scope, inner.get(), sort),
+        StrategyNode::Normalise(place, inner) => {
+            same_sort(*place, sort) && is_valid_strategy(parts, scope, inner.get(), sort)
+        }
+        StrategyNode::Cong(op, arms) => is_valid_congruence(parts, scope, *op, arms.as_slice()),
+    }
+}
+
+/// Whether a congruence of these strategies is valid.
+#[cycle(is_valid_strategy)]
+#[tactic(auto, using(crate::proofs::ValidLemmas::strategy_rules))]
+fn is_valid_congruence(parts: &Parts, scope: Scope, op: OpId, arms: &[Strategy]) -> bool
+    ensures { result ≡ spec.congruence_fits (spec.is_valid_strategy parts.now scope) arms.now
+        (spec.congruent_sorts (slice_get parts.now.signature.operators op.0)) }
+{
+    match congruent_sorts(&parts.signature, op) {
+        None => false,
+        Some(sorts) => !arms.is_empty() && are_valid_each(parts, scope, arms, sorts),
     }
 }
 
@@ -110,11 +180,11 @@ fn is_truth(wanted: Option<SortId>, found: Option<SortId>) -> bool
 }
 
 fn are_joined(parts: &Parts, left: Option<SortId>, of: Option<SortId>, by: &Strategy) -> bool
-    ensures { result ≡ spec.are_joined parts.now.rules parts.now.named left of by.now }
+    ensures { result ≡ spec.are_joined parts.now left of by.now }
 {
     match left {
         None => false,
-        Some(sort) => is_sort(of, sort) && is_valid_strategy(parts, sort, by),
+        Some(sort) => is_sort(of, sort) && is_valid_strategy(parts, Scope::Outside, by, sort),
     }
 }
 
@@ -141,7 +211,8 @@ fn is_valid_where(
     of: &Pattern,
 ) -> Result<bool, NoMemory>
     requires { shapes.now ≡ shapes_of parts.now.signature }
-    ensures { IfOk result (λ ok. ok ≡ spec.is_valid_where parts.now bound.now left.now by.now of.now) }
+    ensures { IfOk result
+        (λ ok. ok ≡ spec.is_valid_where parts.now bound.now left.now by.now of.now) }
 {
     let fresh = binds(alloc, parts.signature.sorts.len(), bound.len(), left)?;
     Ok(
@@ -268,7 +339,9 @@ fn are_valid_rules(
 fn is_valid_named(parts: &Parts, named: &Named) -> bool
     ensures { result ≡ spec.is_valid_named parts.now named.now }
 {
-    has_sort_id(&parts.signature, named.sort) && is_valid_strategy(parts, named.sort, &named.body)
+    let scope = Scope::Inside(named.parameters, named.sort);
+    has_sort_id(&parts.signature, named.sort)
+        && is_valid_strategy(parts, scope, &named.body, named.sort)
 }
 
 fn are_valid_named(parts: &Parts, named: &[Named]) -> bool
@@ -281,7 +354,8 @@ fn are_valid_named(parts: &Parts, named: &[Named]) -> bool
 }
 
 impl Parts {
-    /// Whether these parts make a program, as `Program::new` asks. docs/LANGUAGE.md says what is valid.
+    /// Whether these parts make a program, as `Program::new` asks. docs/LANGUAGE.md says what is
+    /// valid.
     #[tactic(auto, unfolding(crate::specs::Validity::is_valid))]
     pub fn is_valid(&self, alloc: Global) -> Result<bool, NoMemory>
         ensures { IfOk result (λ ok. ok ≡ spec.is_valid self.now) }

@@ -11,7 +11,7 @@ use Rattle.elan_program.specs.declared.program.Program.{Program}
 use Rattle.elan_program.specs.Signature.{shapes_of}
 use Rattle.elan_meaning.specs.declared.item.Entry.{Entry}
 use Rattle.elan_meaning.specs.declared.item.Entry.TheVariants.{At}
-use Rattle.elan_meaning.specs.Items.{rows_of}
+use Rattle.elan_meaning.specs.Items.{rows_of, matched}
 use Rattle.elan_meaning.specs.Meaning as meaning
 use Rattle.elan_meaning.specs.Meaning.{Meaning}
 
@@ -31,16 +31,16 @@ module _ (p : Program) (M : Meaning) where
   clauses-where left s t cs a n = refl
 
   module _ (rest : List Term → ℕ → List Entry) (a : List Term) where
-    pub found-is : (left : Pattern) (v : Term) (n : ℕ) → meaning.found p M left rest a v n ≡ flat_map (meaning.extended p M rest a n) (matches (shapes_of p.signature) left v)
+    pub found-is : (left : Pattern) (v : Term) (n : ℕ) → meaning.found p M left rest a v n ≡ flat_map (matched rest a n) (matches (shapes_of p.signature) left v)
     unfolding meaning.found
     found-is left v n = refl
 
-    pub extended-is : (n : ℕ) (b : List Term) → meaning.extended p M rest a n b ≡ rest (a ++ b) n
-    unfolding meaning.extended
-    extended-is n b = refl
+    pub matched-is : (n : ℕ) (b : List Term) → matched rest a n b ≡ rest (a ++ b) n
+    unfolding matched
+    matched-is n b = refl
 
     pub sought-is : (left : Pattern) (s : Strategy) (u : Term) (n : ℕ) → meaning.sought p M left s rest a u n ≡ rows_of (meaning.strategy p M s u n) (meaning.found p M left rest a)
     unfolding meaning.sought
     sought-is left s u n = refl
 
-pub ruleset conditions = (clauses-none, clauses-if, clauses-where, found-is, extended-is, sought-is)
+pub ruleset conditions = (clauses-none, clauses-if, clauses-where, found-is, matched-is, sought-is)

@@ -23,10 +23,12 @@ use Rattle.elan_program.specs.declared.strategy.StrategyNode.TheBlock as strateg
 use Rattle.elan_program.specs.declared.program.Rule.{Rule}
 use Rattle.elan_program.specs.declared.program.Program.{Program}
 use Rattle.elan_program.specs.Signature.{shapes_of, builtin_at}
+use Rattle.elan_program.specs.Strategies.{with_actuals}
 use Rattle.elan_program.specs.Extension.{unlabelled, tried_by}
 use Rattle.elan_program.specs.Builtins.{reduced, value_in, int_of, int_value, in_range}
 use Rattle.elan_meaning.specs.declared.item.Item.TheVariants.{Res, Mark}
 use Rattle.elan_meaning.specs.declared.item.Cause.TheVariants.{Steps}
+use Rattle.elan_meaning.specs.Items.{then_after, then_before}
 use Rattle.elan_meaning.specs.Meaning as meaning
 use Rattle.elan_meaning.specs.Meaning.{answers, below}
 
@@ -76,7 +78,7 @@ either = strategy (made.All (strategy (made.Label (0 ∷ [])) ∷ strategy (made
 
 -- both rules on a
 both_rules : answers choice either (pattern_of 0 []) 10 ≡ Res (term 1 []) 9 ∷ Res (term 2 []) 9 ∷ []
-unfolding answers below meaning.apply meaning.settled meaning.normal meaning.strategy meaning.clauses meaning.settled_node meaning.then_turn meaning.apply_number meaning.arm_list matches fits has_sort prefixed assignments instance parts pieces pieces_at variables occurrences node is_ac sort_of order depth shapes_of builtin_at value_in reduced unlabelled tried_by terms.shape-the_row-Term-0 terms.hidden-the_row-Term-0 patterns.shape-the_row-Pattern-0 patterns.hidden-the_row-Pattern-0 strategies.shape-the_row-Strategy-0 strategies.hidden-the_row-Strategy-0 hidden
+unfolding answers below meaning.apply meaning.of_node meaning.normal meaning.strategy meaning.clauses meaning.of_args then_after meaning.apply_number meaning.arm_list matches fits has_sort prefixed assignments instance parts pieces pieces_at variables occurrences node is_ac sort_of order depth shapes_of builtin_at value_in reduced unlabelled tried_by terms.shape-the_row-Term-0 terms.hidden-the_row-Term-0 patterns.shape-the_row-Pattern-0 patterns.hidden-the_row-Pattern-0 strategies.shape-the_row-Strategy-0 strategies.hidden-the_row-Strategy-0 hidden
 both_rules = refl
 
 -- both rules at each position
@@ -86,7 +88,7 @@ everywhere = strategy (made.Normalise s either)
 -- both rules at each position of g(a,a)
 everywhere_in_a_pair : answers choice everywhere (pattern_of 3 (pattern_of 0 [] ∷ pattern_of 0 [] ∷ [])) 20
     ≡ Res (term 3 (term 1 [] ∷ term 1 [] ∷ [])) 13 ∷ Res (term 3 (term 1 [] ∷ term 2 [] ∷ [])) 13 ∷ Res (term 3 (term 2 [] ∷ term 1 [] ∷ [])) 13 ∷ Res (term 3 (term 2 [] ∷ term 2 [] ∷ [])) 13 ∷ []
-unfolding answers below meaning.apply meaning.settled meaning.normal meaning.strategy meaning.positions meaning.pattern_of meaning.placed meaning.placed_node meaning.then_rows meaning.normal_term meaning.clauses meaning.settled_node meaning.then_turn meaning.apply_number meaning.arm_list matches fits has_sort prefixed assignments instance parts pieces pieces_at variables occurrences node is_ac sort_of order depth shapes_of builtin_at value_in reduced unlabelled tried_by terms.shape-the_row-Term-0 terms.hidden-the_row-Term-0 patterns.shape-the_row-Pattern-0 patterns.hidden-the_row-Pattern-0 strategies.shape-the_row-Strategy-0 strategies.hidden-the_row-Strategy-0 strategies.shape-the_row-Strategy-1 strategies.hidden-the_row-Strategy-1 strategies.shown-the_row-Strategy-0 hidden
+unfolding answers below meaning.apply meaning.of_node meaning.normal meaning.strategy meaning.positions meaning.pattern_of meaning.placed meaning.placed_node then_before meaning.normal_term meaning.clauses meaning.of_args then_after meaning.apply_number meaning.arm_list matches fits has_sort prefixed assignments instance parts pieces pieces_at variables occurrences node is_ac sort_of order depth shapes_of builtin_at value_in reduced unlabelled tried_by terms.shape-the_row-Term-0 terms.hidden-the_row-Term-0 patterns.shape-the_row-Pattern-0 patterns.hidden-the_row-Pattern-0 strategies.shape-the_row-Strategy-0 strategies.hidden-the_row-Strategy-0 strategies.shape-the_row-Strategy-1 strategies.hidden-the_row-Strategy-1 strategies.shown-the_row-Strategy-0 hidden
 everywhere_in_a_pair = refl
 
 -- integers with +, and the rule inc
@@ -100,5 +102,45 @@ nums = record {
 -- 0 with three steps: two rounds, then none is left
 counted_to_the_mark : answers nums (strategy (made.Iterate (strategy (made.Label (0 ∷ []))))) (record { node = pattern.Int (pos 0) }) 3
     ≡ Res (int_term (pos 0)) 2 ∷ Res (int_term (pos 1)) 0 ∷ Mark Steps ∷ []
-unfolding answers below meaning.apply meaning.settled meaning.normal meaning.strategy meaning.clauses meaning.settled_node meaning.then_turn meaning.apply_number meaning.arm_list matches fits has_sort prefixed assignments instance parts pieces pieces_at variables occurrences node is_ac sort_of order depth shapes_of builtin_at value_in int_of int_value in_range reduced unlabelled tried_by terms.shape-the_row-Term-0 terms.hidden-the_row-Term-0 patterns.shape-the_row-Pattern-0 patterns.hidden-the_row-Pattern-0 strategies.shape-the_row-Strategy-0 strategies.hidden-the_row-Strategy-0 strategies.shape-the_row-Strategy-1 strategies.hidden-the_row-Strategy-1 strategies.shown-the_row-Strategy-0 hidden
+unfolding answers below meaning.apply meaning.of_node meaning.normal meaning.strategy meaning.clauses meaning.of_args then_after meaning.apply_number meaning.arm_list matches fits has_sort prefixed assignments instance parts pieces pieces_at variables occurrences node is_ac sort_of order depth shapes_of builtin_at value_in int_of int_value in_range reduced unlabelled tried_by terms.shape-the_row-Term-0 terms.hidden-the_row-Term-0 patterns.shape-the_row-Pattern-0 patterns.hidden-the_row-Pattern-0 strategies.shape-the_row-Strategy-0 strategies.hidden-the_row-Strategy-0 strategies.shape-the_row-Strategy-1 strategies.hidden-the_row-Strategy-1 strategies.shown-the_row-Strategy-0 hidden
 counted_to_the_mark = refl
+
+-- the rule inc
+abbrev inc : Strategy
+inc = strategy (made.Label (0 ∷ []))
+
+-- the same without the start
+counted_on_to_the_mark : answers nums (strategy (made.IteratePlus inc)) (record { node = pattern.Int (pos 0) }) 3
+    ≡ Res (int_term (pos 1)) 0 ∷ Mark Steps ∷ []
+unfolding answers below meaning.apply meaning.of_node meaning.normal meaning.strategy meaning.clauses meaning.of_args then_after meaning.apply_number meaning.arm_list matches fits has_sort prefixed assignments instance parts pieces pieces_at variables occurrences node is_ac sort_of order depth shapes_of builtin_at value_in int_of int_value in_range reduced unlabelled tried_by terms.shape-the_row-Term-0 terms.hidden-the_row-Term-0 patterns.shape-the_row-Pattern-0 patterns.hidden-the_row-Pattern-0 strategies.shape-the_row-Strategy-0 strategies.hidden-the_row-Strategy-0 strategies.shape-the_row-Strategy-1 strategies.hidden-the_row-Strategy-1 strategies.shown-the_row-Strategy-0 hidden
+counted_on_to_the_mark = refl
+
+-- the first rule on the first argument of g(a,a), and each of both on the second
+in_both_arguments : answers choice (strategy (made.Cong (op 3) (strategy (made.Label (0 ∷ [])) ∷ either ∷ []))) (pattern_of 3 (pattern_of 0 [] ∷ pattern_of 0 [] ∷ [])) 10
+    ≡ Res (term 3 (term 1 [] ∷ term 1 [] ∷ [])) 8 ∷ Res (term 3 (term 1 [] ∷ term 2 [] ∷ [])) 8 ∷ []
+unfolding answers below meaning.apply meaning.of_node meaning.normal meaning.strategy meaning.clauses meaning.of_args then_after meaning.apply_number meaning.arm_list matches fits has_sort prefixed assignments instance parts pieces pieces_at variables occurrences node is_ac sort_of order depth shapes_of builtin_at value_in int_of int_value in_range reduced unlabelled tried_by terms.shape-the_row-Term-0 terms.hidden-the_row-Term-0 patterns.shape-the_row-Pattern-0 patterns.hidden-the_row-Pattern-0 strategies.shape-the_row-Strategy-0 strategies.hidden-the_row-Strategy-0 strategies.shape-the_row-Strategy-1 strategies.hidden-the_row-Strategy-1 strategies.shown-the_row-Strategy-0 hidden meaning.pattern_of meaning.normal_term meaning.normal_app then_before
+in_both_arguments = refl
+
+-- another operator heads a
+not_in_a : answers choice (strategy (made.Cong (op 3) (either ∷ either ∷ []))) (pattern_of 0 []) 10 ≡ []
+unfolding answers below meaning.apply meaning.of_node meaning.normal meaning.strategy meaning.clauses meaning.of_args then_after meaning.apply_number meaning.arm_list matches fits has_sort prefixed assignments instance parts pieces pieces_at variables occurrences node is_ac sort_of order depth shapes_of builtin_at value_in int_of int_value in_range reduced unlabelled tried_by terms.shape-the_row-Term-0 terms.hidden-the_row-Term-0 patterns.shape-the_row-Pattern-0 patterns.hidden-the_row-Pattern-0 strategies.shape-the_row-Strategy-0 strategies.hidden-the_row-Strategy-0 strategies.shape-the_row-Strategy-1 strategies.hidden-the_row-Strategy-1 strategies.shown-the_row-Strategy-0 hidden meaning.pattern_of meaning.normal_term meaning.normal_app then_before
+not_in_a = refl
+
+-- nums with twice(X) => X;X
+abbrev with_twice : Program
+with_twice = record {
+  signature = nums.signature;
+  rules = nums.rules;
+  named = record { name = record { bytes = [] }; sort = s; parameters = 1; body = strategy (made.Seq (strategy (made.Param 0) ∷ strategy (made.Param 0) ∷ [])) } ∷ [];
+}
+
+-- twice(twice(inc)) on 0: three calls and four rules
+four_times : answers with_twice (strategy (made.Call 0 (strategy (made.Call 0 (inc ∷ [])) ∷ []))) (record { node = pattern.Int (pos 0) }) 10
+    ≡ Res (int_term (pos 4)) 3 ∷ []
+unfolding answers below meaning.apply meaning.of_node meaning.normal meaning.strategy meaning.clauses meaning.of_args then_after meaning.apply_number meaning.arm_list matches fits has_sort prefixed assignments instance parts pieces pieces_at variables occurrences node is_ac sort_of order depth shapes_of builtin_at value_in int_of int_value in_range reduced unlabelled tried_by terms.shape-the_row-Term-0 terms.hidden-the_row-Term-0 patterns.shape-the_row-Pattern-0 patterns.hidden-the_row-Pattern-0 strategies.shape-the_row-Strategy-0 strategies.hidden-the_row-Strategy-0 strategies.shape-the_row-Strategy-1 strategies.hidden-the_row-Strategy-1 strategies.shown-the_row-Strategy-0 hidden with_actuals
+four_times = refl
+
+-- twice(inc) with two steps: a call, a rule, and then none is left
+twice_to_the_mark : answers with_twice (strategy (made.Call 0 (inc ∷ []))) (record { node = pattern.Int (pos 0) }) 2 ≡ Mark Steps ∷ []
+unfolding answers below meaning.apply meaning.of_node meaning.normal meaning.strategy meaning.clauses meaning.of_args then_after meaning.apply_number meaning.arm_list matches fits has_sort prefixed assignments instance parts pieces pieces_at variables occurrences node is_ac sort_of order depth shapes_of builtin_at value_in int_of int_value in_range reduced unlabelled tried_by terms.shape-the_row-Term-0 terms.hidden-the_row-Term-0 patterns.shape-the_row-Pattern-0 patterns.hidden-the_row-Pattern-0 strategies.shape-the_row-Strategy-0 strategies.hidden-the_row-Strategy-0 strategies.shape-the_row-Strategy-1 strategies.hidden-the_row-Strategy-1 strategies.shown-the_row-Strategy-0 hidden with_actuals
+twice_to_the_mark = refl

@@ -13,9 +13,9 @@ use Rattle.elan_meaning.specs.declared.item.Item.{Item}
 use Rattle.elan_meaning.specs.declared.item.Item.TheVariants.{Res, Mark}
 use Rattle.elan_meaning.specs.declared.item.Cause.TheVariants.{Steps, Depth}
 use Rattle.elan_meaning.specs.Meaning.{within, below, answers}
-use Rattle.elan_meaning.specs.Laws.{Goes, none, result, deep, out, on, GoesRows, no_row, row, deep_row, out_row, on_row, Follows, AtMost, AtMostRows, before_out, rows_before_out, runs_out, rows_run_out, raised, raised_rows, GoesOn, RowsGoOn, strategy_items, rule_items, clause_entries, position_items, normal_item}
+use Rattle.elan_meaning.specs.Laws.{Goes, none, result, deep, out, on, GoesRows, no_row, row, deep_row, out_row, on_row, Follows, AtMost, AtMostRows, before_out, rows_before_out, runs_out, rows_run_out, raised, raised_rows, GoesOn, RowsGoOn, strategy_items, rule_items, clause_entries, position_items, normal_item, node_item}
 use Rattle.elan_meaning.proofs.GoesLemmas.{goes-results}
-use Rattle.elan_meaning.proofs.Steps.{follows, apply as applied}
+use Rattle.elan_meaning.proofs.Steps.{follows, apply as applied, of_node as node_goes}
 
 pub at_most : {k n : ℕ} {is js : List Item} → k ≡ 0 → Goes k n is js → AtMost n is
 at_most z none = tt
@@ -113,6 +113,12 @@ module _ (p : Program) (n k : ℕ) where
       let le : n ≤ n = omega arith in let le' : n ≤ n + k = omega arith in
       applied p k n (below p n) (below p (n + k)) (follows p k n n (n + k) le le') r t n (n + k) below_last refl
 
+  -- the item of a canonical node, which is made one level lower too
+  item_goes : (u : Term) → Goes k n (node_item p u n ∷ []) (node_item p u (n + k) ∷ [])
+  item_goes u =
+      let le : n ≤ n = omega arith in let le' : n ≤ n + k = omega arith in
+      node_goes p k n (below p n) (below p (n + k)) (follows p k n n (n + k) le le') u n (n + k) below_last refl
+
   answers_go : (start : Strategy) (query : Pattern) → Goes k n (answers p start query n) (answers p start query (n + k))
   unfolding answers
   answers_go start query = goes-results (more.normal query [] n (n + k) below_last refl) (λ t m m' low up. more.strategy start t m m' (omega arith) up)
@@ -122,6 +128,9 @@ module _ (p : Program) (n k : ℕ) where
 
   pub rule_more : (r : Rule) (t : Term) → GoesOn k (rule_items p r t n) (rule_items p r t (n + k))
   rule_more r t = goes_on (rule_goes r t)
+
+  pub node_more : (u : Term) → GoesOn k (node_item p u n ∷ []) (node_item p u (n + k) ∷ [])
+  node_more u = goes_on (item_goes u)
 
   pub clauses_more : (cs : List Clause) (a : List Term) → RowsGoOn k (clause_entries p cs a n) (clause_entries p cs a (n + k))
   clauses_more cs a = rows_go_on (more.clauses cs a n (n + k) below_last refl)
@@ -142,6 +151,9 @@ module _ (p : Program) (n : ℕ) where
 
   pub rule_left : (r : Rule) (t : Term) → AtMost n (rule_items p r t n)
   rule_left r t = at_most refl (rule_goes p n 0 r t)
+
+  pub node_left : (u : Term) → AtMost n (node_item p u n ∷ [])
+  node_left u = at_most refl (item_goes p n 0 u)
 
   pub clauses_left : (cs : List Clause) (a : List Term) → AtMostRows n (clause_entries p cs a n)
   clauses_left cs a = rows_at_most refl ((more p n 0).clauses cs a n (n + 0) (below_last p n 0) refl)

@@ -6,4 +6,5 @@ pub mod GoesLemmas
 pub mod Steps
 pub mod LawLemmas
 mod Examples
-pub mod Equations
+pub mod Fixed
+pub mod RowLemmas

@@ -1,13 +1,14 @@
 -- With more steps left a meaning goes on as it did.
-use Rattle.std.proofs.Common.{◌≡◌, ℕ, zero, suc, ◌+◌, ◌<◌, ◌≤◌, Option, None, Some, List, [], ◌∷◌, ◌++◌, map, arith}
-use Rattle.std.specs.Prelude.{nat_lt, slice_get}
+use Rattle.std.proofs.Common.{◌≡◌, refl, ap, subst, ℕ, zero, suc, ◌+◌, ◌<◌, ◌≤◌, Option, None, Some, List, [], ◌∷◌, ◌++◌, map, arith}
+use Rattle.std.specs.Prelude.{nat_lt, ◌==◌, slice_get}
 use Rattle.std.specs.List.{flat_map}
+use Rattle.elan_terms.specs.declared.tree.OpId.{OpId}
 use Rattle.elan_terms.specs.declared.tree.SortId.{SortId}
 use Rattle.elan_terms.specs.declared.tree.Term.{Term}
 use Rattle.elan_terms.specs.declared.tree.TermNode as term
 use Rattle.elan_terms.specs.declared.tree.Pattern.{Pattern}
 use Rattle.elan_terms.specs.declared.tree.PatternNode as pattern
-use Rattle.elan_terms.specs.Trees.{fold_row, fold_pattern_row, int_term}
+use Rattle.elan_terms.specs.Trees.{fold_row, fold_pattern_row, case_node, int_term, app_term}
 use Rattle.elan_terms.specs.Term.{depth, node, sort_of}
 use Rattle.elan_terms.specs.Match.{matches, is_sort}
 use Rattle.elan_program.specs.declared.strategy.Strategy.{Strategy}
@@ -19,13 +20,13 @@ use Rattle.elan_program.specs.declared.program.Rule.{Rule}
 use Rattle.elan_program.specs.declared.program.Named.{Named}
 use Rattle.elan_program.specs.declared.program.Program.{Program}
 use Rattle.elan_program.specs.Signature.{shapes_of}
-use Rattle.elan_program.specs.Strategies.{para_node, para_row}
+use Rattle.elan_program.specs.Strategies.{Layer, para_node, para_row, firsts, seconds, with_actuals}
 use Rattle.elan_program.specs.Extension.{unlabelled}
 use Rattle.elan_program.specs.Builtins.{reduced, is_true}
 use Rattle.elan_meaning.specs.declared.item.Item.{Item}
 use Rattle.elan_meaning.specs.declared.item.Entry.{Entry}
 use Rattle.elan_meaning.specs.declared.item.Item.TheVariants.{Res}
-use Rattle.elan_meaning.specs.Items.{first_of, chosen}
+use Rattle.elan_meaning.specs.Items.{first_of, chosen, then_after, then_before, matched, in_turn, rows, paired, sequence}
 use Rattle.elan_meaning.specs.Meaning as meaning
 use Rattle.elan_meaning.specs.Meaning.{Meaning, max_depth, pattern_of, value_of, below}
 use Rattle.elan_meaning.specs.Laws.{Goes, none, result, deep, out, on, GoesRows, no_row, row, deep_row, out_row, on_row, Follows}
@@ -56,22 +57,22 @@ module _ (p : Program) (k n : ℕ) (M M' : Meaning) (follows : Follows k n M M')
   one_result : (t : Term) (m m' : ℕ) → m' ≡ m + k → Goes k m (Res t m ∷ []) (Res t m' ∷ [])
   one_result t m m' e = result (omega arith) e none
 
-  settled : (u : Term) (m m' : ℕ) → m < suc n → m' ≡ m + k → Goes k m (meaning.settled p M u m ∷ []) (meaning.settled p M' u m' ∷ [])
-  unfolding meaning.settled
-  settled u m m' lt e =
+  pub of_node : (u : Term) (m m' : ℕ) → m < suc n → m' ≡ m + k → Goes k m (meaning.of_node p M u m ∷ []) (meaning.of_node p M' u m' ∷ [])
+  unfolding meaning.of_node
+  of_node u m m' lt e =
       goes-if_one (nat_lt max_depth (depth u)) (deep none)
       (goes-first_or (tried (unlabelled p) (reduced p.signature u) m m' lt e) (one_result (reduced p.signature u) m m' e))
 
   mutual
-    unfolding meaning.normal meaning.settled_node meaning.then_turn
+    unfolding meaning.normal meaning.of_args then_after
 
     normal_node : (x : pattern.PatternNode) (a : List Term) (m m' : ℕ) → m < suc n → m' ≡ m + k → Goes k m (meaning.normal p M (record { node = x }) a m ∷ []) (meaning.normal p M' (record { node = x }) a m' ∷ [])
     normal_node (pattern.Var x sort) a m m' lt e = one_result (value_of a x) m m' e
-    normal_node (pattern.Int z) a m m' lt e = settled (int_term z) m m' lt e
+    normal_node (pattern.Int z) a m m' lt e = of_node (int_term z) m m' lt e
     normal_node (pattern.App' op shape args) a m m' lt e =
-        goes-one_of (normal_row args a m m' lt e) (λ us i i' le is. settled (node (shapes_of p.signature) op us) i i' (omega arith) is)
+        goes-one_of (normal_row args a m m' lt e) (λ us i i' le is. of_node (node (shapes_of p.signature) op us) i i' (omega arith) is)
 
-    normal_row : {j : _} (args : pattern.Row_of-Pattern j) (a : List Term) (m m' : ℕ) → m < suc n → m' ≡ m + k → GoesRows k m (meaning.in_turn p M (fold_pattern_row (meaning.of_var p M) (meaning.of_int p M) (meaning.of_app p M) args) a m ∷ []) (meaning.in_turn p M' (fold_pattern_row (meaning.of_var p M') (meaning.of_int p M') (meaning.of_app p M') args) a m' ∷ [])
+    normal_row : {j : _} (args : pattern.Row_of-Pattern j) (a : List Term) (m m' : ℕ) → m < suc n → m' ≡ m + k → GoesRows k m (in_turn (fold_pattern_row (meaning.of_var p M) (meaning.of_int p M) (meaning.of_app p M) args) a m ∷ []) (in_turn (fold_pattern_row (meaning.of_var p M') (meaning.of_int p M') (meaning.of_app p M') args) a m' ∷ [])
     normal_row pattern.end_of-Pattern a m m' lt e = row (omega arith) e no_row
     normal_row (pattern.more_of-Pattern x rest) a m m' lt e =
         goes-row_of (normal_node x a m m' lt e) (λ u i i' le is. rows-after u (normal_row rest a i i' (omega arith) is))
@@ -97,14 +98,14 @@ module _ (p : Program) (k n : ℕ) (M M' : Meaning) (follows : Follows k n M M')
       let below : m < n = omega arith in let raised : m' ≡ m + k = omega arith in
       goes-more (omega arith) (again_or sort s u m m' below raised (follows.strategy s u m m' below raised))
 
-  placed : (sort : SortId) (s : Strategy) (u : Term) (m m' : ℕ) → m < suc n → m' ≡ m + k → Goes k m (meaning.placed p M sort s u m) (meaning.placed p M' sort s u m')
+  pub placed : (sort : SortId) (s : Strategy) (u : Term) (m m' : ℕ) → m < suc n → m' ≡ m + k → Goes k m (meaning.placed p M sort s u m) (meaning.placed p M' sort s u m')
   unfolding meaning.placed
   placed sort s u m m' lt e =
       goes-if (nat_lt max_depth (depth u)) (deep none)
       (goes-if (is_sort (sort_of (shapes_of p.signature) u) sort) (at_node sort s u m m' lt e) (one_result u m m' e))
 
   mutual
-    unfolding meaning.positions meaning.placed_node meaning.then_rows
+    unfolding meaning.positions meaning.placed_node then_before
 
     positions_node : (x : term.TermNode) (sort : SortId) (s : Strategy) (m m' : ℕ) → m < suc n → m' ≡ m + k
         → Goes k m (meaning.positions p M sort s (record { node = x }) m) (meaning.positions p M' sort s (record { node = x }) m')
@@ -113,8 +114,8 @@ module _ (p : Program) (k n : ℕ) (M M' : Meaning) (follows : Follows k n M M')
         goes-items_of (positions_row args sort s m m' lt e) (λ us i i' le is. placed sort s (node (shapes_of p.signature) op us) i i' (omega arith) is)
 
     positions_row : {j : _} (args : term.Row_of-Term j) (sort : SortId) (s : Strategy) (m m' : ℕ) → m < suc n → m' ≡ m + k
-        → GoesRows k m (meaning.rows p M (fold_row (meaning.at_int p M sort s) (meaning.at_app p M sort s) args) m)
-        (meaning.rows p M' (fold_row (meaning.at_int p M' sort s) (meaning.at_app p M' sort s) args) m')
+        → GoesRows k m (rows (fold_row (meaning.at_int p M sort s) (meaning.at_app p M sort s) args) m)
+        (rows (fold_row (meaning.at_int p M' sort s) (meaning.at_app p M' sort s) args) m')
     positions_row term.end_of-Term sort s m m' lt e = row (omega arith) e no_row
     positions_row (term.more_of-Term x rest) sort s m m' lt e =
         goes-rows_of (positions_node x sort s m m' lt e) (λ u i i' le is. rows-before u (positions_row rest sort s i i' (omega arith) is))
@@ -128,12 +129,20 @@ module _ (p : Program) (k n : ℕ) (M M' : Meaning) (follows : Follows k n M M')
   apply_found t None m m' lt e = none
   apply_found t (Some r) m m' lt e = apply r t m m' lt e
 
-  call : (d : Option Named) (t : Term) (m m' : ℕ) → m < suc n → m' ≡ m + k → Goes k m (meaning.call p M d t m) (meaning.call p M' d t m')
-  call d t zero zero lt e = out none
-  call d t zero (suc m') lt e = on (omega arith)
-  call d t (suc m) zero lt e = absurd (omega arith)
-  call None t (suc m) (suc m') lt e = none
-  call (Some d) t (suc m) (suc m') lt e = goes-more (omega arith) (follows.strategy d.body t m m' (omega arith) (omega arith))
+  call : (d : Option Named) (actuals : List Strategy) (t : Term) (m m' : ℕ) → m < suc n → m' ≡ m + k
+      → Goes k m (meaning.call p M d actuals t m) (meaning.call p M' d actuals t m')
+  call d actuals t zero zero lt e = out none
+  call d actuals t zero (suc m') lt e = on (omega arith)
+  call d actuals t (suc m) zero lt e = absurd (omega arith)
+  call None actuals t (suc m) (suc m') lt e = none
+  call (Some d) actuals t (suc m) (suc m') lt e =
+      goes-more (omega arith) (follows.strategy (with_actuals actuals d.body) t m m' (omega arith) (omega arith))
+
+  -- the strategies that a recursion has beside what they gave do not depend on it
+  same_firsts : {A B : Type 0} (f : Layer (Strategy × A) → A) (g : Layer (Strategy × B) → B) {j : _} (row : Row_of-Strategy j)
+      → firsts (para_row f row) ≡ firsts (para_row g row)
+  same_firsts f g end_of-Strategy = refl
+  same_firsts f g (more_of-Strategy s rest) = ap (λ r. record { node = s } ∷ r) (same_firsts f g rest)
 
   repeat_or : (s : Strategy) (t : Term) (m m' : ℕ) {is js : List Item} → m < n → m' ≡ m + k → Goes k m is js → Goes k m (meaning.repeat_or p M s t m is) (meaning.repeat_or p M' s t m' js)
   repeat_or s t m m' lt e none = one_result t m m' e
@@ -159,27 +168,62 @@ module _ (p : Program) (k n : ℕ) (M M' : Meaning) (follows : Follows k n M M')
       goes-more (omega arith) (result (omega arith) raised
       (goes-results (follows.strategy s t m m' below raised) (λ u i i' le is. follows.strategy (record { node = made.Iterate s }) u i i' (omega arith) is)))
 
+  iterate_plus : (s : Strategy) (t : Term) (m m' : ℕ) → m < suc n → m' ≡ m + k
+      → Goes k m (meaning.iterate_plus p M s t m) (meaning.iterate_plus p M' s t m')
+  iterate_plus s t zero zero lt e = out none
+  iterate_plus s t zero (suc m') lt e = on (omega arith)
+  iterate_plus s t (suc m) zero lt e = absurd (omega arith)
+  iterate_plus s t (suc m) (suc m') lt e =
+      let below : m < n = omega arith in let raised : m' ≡ m + k = omega arith in
+      goes-more (omega arith)
+      (goes-results (follows.strategy s t m m' below raised) (λ u i i' le is. follows.strategy (record { node = made.Iterate s }) u i i' (omega arith) is))
+
+  congruent : (op : OpId) (fs fs' : List (Term → ℕ → List Item)) (x : term.TermNode) (m m' : ℕ) → m < suc n
+      → ((us : List Term) → GoesRows k m (rows (paired fs us) m) (rows (paired fs' us) m'))
+      → Goes k m (case_node (meaning.not_headed p M) (meaning.congruent p M op fs m) x)
+      (case_node (meaning.not_headed p M') (meaning.congruent p M' op fs' m') x)
+  unfolding meaning.normal_app meaning.normal_term
+  congruent op fs fs' (term.Int z) m m' lt h = none
+  congruent op fs fs' (term.App' head shape args) m m' lt h =
+      goes-if (op.0 == head.0)
+      (goes-items_of (h (term.items-the_row-Term _ args)) (λ us i i' le is. normal (pattern_of (app_term op us)) [] i i' (omega arith) is)) none
+
   mutual
-    unfolding meaning.strategy meaning.apply_number meaning.arm_list meaning.normal_term chosen
+    unfolding meaning.strategy meaning.apply_number meaning.arm_list meaning.normal_term chosen then_before
 
     strategy_node : (x : StrategyNode) (t : Term) (m m' : ℕ) → m < suc n → m' ≡ m + k
         → Goes k m (para_node (meaning.at_level p M) x t m) (para_node (meaning.at_level p M') x t m')
     strategy_node made.Id t m m' lt e = one_result t m m' e
     strategy_node made.Fail t m m' lt e = none
     strategy_node (made.Label rules) t m m' lt e = goes-flat_map rules (λ j. apply_found t (slice_get p.rules j) m m' lt e)
-    strategy_node (made.Call d) t m m' lt e = call (slice_get p.named d) t m m' lt e
+    strategy_node (made.Call' d shape actuals) t m m' lt e =
+        let own : List Strategy = firsts (para_row (meaning.at_level p M) actuals) in
+        let Goal : List Strategy → Type 0 = λ others. Goes k m (meaning.call p M (slice_get p.named d) own t m)
+        (meaning.call p M' (slice_get p.named d) others t m') in
+        subst Goal (same_firsts (meaning.at_level p M) (meaning.at_level p M') actuals) (call (slice_get p.named d) own t m m' lt e)
+    strategy_node (made.Param number) t m m' lt e = none
     strategy_node (made.Seq' shape arms) t m m' lt e = sequence_row arms t m m' lt e
     strategy_node (made.All' shape arms) t m m' lt e = all_row arms t m m' lt e
     strategy_node (made.First' one shape arms) t m m' lt e = goes-if one (goes-head (first_row arms t m m' lt e)) (first_row arms t m m' lt e)
     strategy_node (made.Repeat' shape (more_of-Strategy s end_of-Strategy)) t m m' lt e = repeat (record { node = s }) t m m' lt e
     strategy_node (made.Iterate' shape (more_of-Strategy s end_of-Strategy)) t m m' lt e = iterate (record { node = s }) t m m' lt e
+    strategy_node (made.IteratePlus' shape (more_of-Strategy s end_of-Strategy)) t m m' lt e = iterate_plus (record { node = s }) t m m' lt e
+    strategy_node (made.Cong' op shape arms) t m m' lt e = congruent op _ _ t.node m m' lt (λ us. paired_row arms us m m' lt e)
     strategy_node (made.Normalise' sort shape (more_of-Strategy s end_of-Strategy)) t m m' lt e =
         goes-results (positions sort (record { node = s }) t m m' lt e) (λ u i i' le is. normal (pattern_of u) [] i i' (omega arith) is)
 
     sequence_row : {j : _} (arms : Row_of-Strategy j) (t : Term) (m m' : ℕ) → m < suc n → m' ≡ m + k
-        → Goes k m (meaning.sequence p M (map (λ s. s.1) (para_row (meaning.at_level p M) arms)) t m) (meaning.sequence p M' (map (λ s. s.1) (para_row (meaning.at_level p M') arms)) t m')
+        → Goes k m (sequence (seconds (para_row (meaning.at_level p M) arms)) t m) (sequence (seconds (para_row (meaning.at_level p M') arms)) t m')
     sequence_row end_of-Strategy t m m' lt e = one_result t m m' e
     sequence_row (more_of-Strategy s rest) t m m' lt e = goes-results (strategy_node s t m m' lt e) (λ u i i' le is. sequence_row rest u i i' (omega arith) is)
+
+    paired_row : {j : _} (arms : Row_of-Strategy j) (us : List Term) (m m' : ℕ) → m < suc n → m' ≡ m + k
+        → GoesRows k m (rows (paired (seconds (para_row (meaning.at_level p M) arms)) us) m)
+        (rows (paired (seconds (para_row (meaning.at_level p M') arms)) us) m')
+    paired_row end_of-Strategy us m m' lt e = row (omega arith) e no_row
+    paired_row (more_of-Strategy s rest) [] m m' lt e = row (omega arith) e no_row
+    paired_row (more_of-Strategy s rest) (u ∷ us) m m' lt e =
+        goes-rows_of (strategy_node s u m m' lt e) (λ v i i' le is. rows-before v (paired_row rest us i i' (omega arith) is))
 
     all_row : {j : _} (arms : Row_of-Strategy j) (t : Term) (m m' : ℕ) → m < suc n → m' ≡ m + k
         → Goes k m (flat_map (meaning.arm_list p M t m) (para_row (meaning.at_level p M) arms)) (flat_map (meaning.arm_list p M' t m') (para_row (meaning.at_level p M') arms))
@@ -212,7 +256,7 @@ module _ (p : Program) (k n : ℕ) (M M' : Meaning) (follows : Follows k n M M')
   if_result m (on some) h = on_row some
 
   clauses : (cs : List Clause) (a : List Term) (m m' : ℕ) → m < suc n → m' ≡ m + k → GoesRows k m (meaning.clauses p M cs a m) (meaning.clauses p M' cs a m')
-  unfolding meaning.clauses meaning.sought meaning.found meaning.extended
+  unfolding meaning.clauses meaning.sought meaning.found matched
   clauses [] a m m' lt e = row (omega arith) e no_row
   clauses (If t ∷ cs) a m m' lt e = if_true m (normal t a m m' lt e) (λ i i' le is. clauses cs a i i' (omega arith) is)
   clauses (Where left s t ∷ cs) a m m' lt e =

@@ -72,3 +72,40 @@ row_of (Mark c) k = Stop c
 abbrev pub after : Term → Entry → Entry
 after t (At ts m) = At (t ∷ ts) m
 after t (Stop c) = Stop c
+
+-- ---- names of functions that are handed on, by which a proof search knows them
+
+-- an argument's result before those of the arguments that come after it
+unfoldable pub then_after : (ℕ → Entry) → Term → ℕ → Entry
+then_after k u m = after u (k m)
+
+-- an argument's result before each row of the arguments that come after it
+unfoldable pub then_before : (ℕ → List Entry) → Term → ℕ → List Entry
+then_before k u m = before u (k m)
+
+-- what follows a match, whose values come after those that are bound
+unfoldable pub matched : (List Term → ℕ → List Entry) → List Term → ℕ → List Term → List Entry
+matched rest a n b = rest (a ++ b) n
+
+-- ---- one after the other, with the steps running on
+
+-- arguments under an assignment from left to right, each with the steps that the one before left
+abbrev pub in_turn : List (List Term → ℕ → Item) → List Term → ℕ → Entry
+in_turn [] a n = At [] n
+in_turn (f ∷ fs) a n = row_of (f a n) (then_after (in_turn fs a))
+
+-- arguments from left to right, each with all its items: the rows of results, each mark on its own
+abbrev pub rows : List (ℕ → List Item) → ℕ → List Entry
+rows [] n = At [] n ∷ []
+rows (f ∷ fs) n = rows_of (f n) (then_before (rows fs))
+
+-- each strategy on the argument of its place
+abbrev pub paired : List (Term → ℕ → List Item) → List Term → List (ℕ → List Item)
+paired [] us = []
+paired (f ∷ fs) [] = []
+paired (f ∷ fs) (u ∷ us) = f u ∷ paired fs us
+
+-- one strategy after the other, each on each result
+abbrev pub sequence : List (Term → ℕ → List Item) → Term → ℕ → List Item
+sequence [] t n = Res t n ∷ []
+sequence (f ∷ fs) t n = on_results (f t n) (sequence fs)

@@ -1,5 +1,6 @@
--- Two lists, of which the second is made with k more steps left than the first.
-use Rattle.std.specs.Prelude.{◌≡◌, ℕ, ◌+◌, ◌<◌, ◌≤◌, Bool, true, false, List, [], ◌∷◌, ◌++◌}
+-- The lists of the definitions, and how two of them go together, of which the second is made with
+-- k more steps left.
+use Rattle.std.specs.Prelude.{◌≡◌, ℕ, ◌+◌, ◌<◌, ◌≤◌, min, Bool, true, false, List, [], ◌∷◌, ◌++◌}
 use Rattle.elan_terms.specs.declared.tree.SortId.{SortId}
 use Rattle.elan_terms.specs.declared.tree.Term.{Term}
 use Rattle.elan_terms.specs.declared.tree.Pattern.{Pattern}
@@ -12,9 +13,11 @@ use Rattle.elan_meaning.specs.declared.item.Entry.{Entry}
 use Rattle.elan_meaning.specs.declared.item.Entry.TheVariants.{At, Stop}
 use Rattle.elan_meaning.specs.declared.item.Item.TheVariants.{Res, Mark}
 use Rattle.elan_meaning.specs.declared.item.Cause.TheVariants.{Steps, Depth}
-use Rattle.elan_meaning.specs.Meaning.{Meaning, within, below, apply}
+use Rattle.elan_meaning.specs.Meaning.{Meaning, within, below, apply, of_node, placed}
 
--- The second goes on as the first does, with k more steps left in each result, as far as the first has no mark `out of steps`. No result of the first has more than n steps left. For k = 0 the two lists are equal.
+-- The second goes on as the first does, with k more steps left in each result, as far as the first
+-- has no mark `out of steps`. No result of the first has more than n steps left. For k = 0 the two
+-- lists are equal.
 pub data Goes (k n : ℕ) : List Item → List Item → Type 0 where
   none : Goes k n [] []
   result : {t : Term} {m m' : ℕ} {is js : List Item} → m ≤ n → m' ≡ m + k → Goes k n is js → Goes k n (Res t m ∷ is) (Res t m' ∷ js)
@@ -91,7 +94,8 @@ raised_rows k [] = []
 raised_rows k (At ts m ∷ es) = At ts (m + k) ∷ raised_rows k es
 raised_rows k (Stop c ∷ es) = Stop c ∷ raised_rows k es
 
--- what stands in the first list before its first mark `out of steps` begins the second, and is all of it where the first has no such mark
+-- what stands in the first list before its first mark `out of steps` begins the second, and is all of
+-- it where the first has no such mark
 pub record GoesOn (k : ℕ) (is js : List Item) : Type 0 where
   pub begins : (rest : List Item) × (raised k (before_out is) ++ rest ≡ js)
   pub whole : runs_out is ≡ false → raised k is ≡ js
@@ -100,6 +104,18 @@ pub record GoesOn (k : ℕ) (is js : List Item) : Type 0 where
 pub record RowsGoOn (k : ℕ) (es fs : List Entry) : Type 0 where
   pub begins : (rest : List Entry) × (raised_rows k (rows_before_out es) ++ rest ≡ fs)
   pub whole : rows_run_out es ≡ false → raised_rows k es ≡ fs
+
+-- with the lesser of the steps left and n in each result
+abbrev pub lowered : ℕ → List Item → List Item
+lowered n [] = []
+lowered n (Res t m ∷ is) = Res t (min m n) ∷ lowered n is
+lowered n (Mark c ∷ is) = Mark c ∷ lowered n is
+
+-- with the lesser of the steps left and n in each row
+abbrev pub lowered_rows : ℕ → List Entry → List Entry
+lowered_rows n [] = []
+lowered_rows n (At ts m ∷ es) = At ts (min m n) ∷ lowered_rows n es
+lowered_rows n (Stop c ∷ es) = Stop c ∷ lowered_rows n es
 
 -- ---- the lists of the definitions, made with n steps left
 
@@ -123,3 +139,20 @@ module _ (p : Program) where
   -- the one item of a pattern under an assignment
   abbrev pub normal_item : Pattern → List Term → ℕ → Item
   normal_item q a n = (within p n).normal q a n
+
+  -- the one item of a canonical node
+  abbrev pub node_item : Term → ℕ → Item
+  node_item u n = of_node p (below p n) u n
+
+  -- of a strategy at a canonical node of a term
+  abbrev pub place_items : SortId → Strategy → Term → ℕ → List Item
+  place_items sort s u n = placed p (below p n) sort s u n
+
+  -- all of them together
+  abbrev pub meant : Meaning
+  meant = record {
+    normal = normal_item;
+    clauses = clause_entries;
+    positions = position_items;
+    strategy = strategy_items;
+  }

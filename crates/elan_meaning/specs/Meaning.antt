@@ -1,11 +1,11 @@
 -- What normalising, rules, clauses and strategies give.
-use Rattle.std.specs.Prelude.{ℕ, zero, suc, ℤ, pos, if◌then◌else◌, nat_lt, Option, Some, None, List, [], ◌∷◌, ◌++◌, map, slice_get}
+use Rattle.std.specs.Prelude.{ℕ, zero, suc, ℤ, pos, if◌then◌else◌, nat_lt, ◌==◌, Option, Some, None, List, [], ◌∷◌, map, slice_get}
 use Rattle.std.specs.List.{flat_map}
 use Rattle.elan_terms.specs.declared.tree.OpId.{OpId}
 use Rattle.elan_terms.specs.declared.tree.SortId.{SortId}
 use Rattle.elan_terms.specs.declared.tree.Term.{Term}
 use Rattle.elan_terms.specs.declared.tree.Pattern.{Pattern}
-use Rattle.elan_terms.specs.Trees.{fold_term, fold_pattern, int_term}
+use Rattle.elan_terms.specs.Trees.{fold_term, fold_pattern, case_term, int_term, app_term}
 use Rattle.elan_terms.specs.Term.{depth, node, sort_of}
 use Rattle.elan_terms.specs.Match.{matches, is_sort}
 use Rattle.elan_program.specs.declared.strategy.Strategy.{Strategy}
@@ -17,7 +17,7 @@ use Rattle.elan_program.specs.declared.program.Rule.{Rule}
 use Rattle.elan_program.specs.declared.program.Named.{Named}
 use Rattle.elan_program.specs.declared.program.Program.{Program}
 use Rattle.elan_program.specs.Signature.{shapes_of}
-use Rattle.elan_program.specs.Strategies.{Layer, para_strategy}
+use Rattle.elan_program.specs.Strategies.{Layer, para_strategy, firsts, seconds, with_actuals}
 use Rattle.elan_program.specs.Extension.{unlabelled, int_pattern, app_pattern}
 use Rattle.elan_program.specs.Builtins.{reduced, is_true}
 use Rattle.elan_meaning.specs.declared.item.Item.{Item}
@@ -25,7 +25,7 @@ use Rattle.elan_meaning.specs.declared.item.Entry.{Entry}
 use Rattle.elan_meaning.specs.declared.item.Entry.TheVariants.{At, Stop}
 use Rattle.elan_meaning.specs.declared.item.Item.TheVariants.{Res, Mark}
 use Rattle.elan_meaning.specs.declared.item.Cause.TheVariants.{Steps, Depth}
-use Rattle.elan_meaning.specs.Items.{on_results, or_else, first_of, chosen, first_or, before, rows_of, items_of, one_of, row_of, after}
+use Rattle.elan_meaning.specs.Items.{on_results, or_else, first_of, chosen, first_or, rows_of, items_of, one_of, matched, in_turn, rows, paired, sequence}
 
 -- how deep a term may be
 abbrev pub max_depth : ℕ
@@ -72,51 +72,35 @@ module _ (p : Program) (below : Meaning) where
   tried [] u n = []
   tried (r ∷ rs) u n = or_else (apply r u n) (tried rs u n)
 
-  -- a canonical node on its own: too deep, or replaced by the value of a built-in operation, and then by the first item of the first unlabelled rule that gives one
-  unfoldable pub settled : Term → ℕ → Item
-  settled u n =
+  -- The meaning of a canonical node. Too deep: the mark; else its built-in value or itself; then the
+  -- first item of the first unlabelled rule that gives any; else that term.
+  unfoldable pub of_node : Term → ℕ → Item
+  of_node u n =
       if nat_lt max_depth (depth u) then Mark Depth
       else (let w : Term = reduced p.signature u in first_or (tried (unlabelled p) w n) (Res w n))
 
-  -- an argument's result before those of the arguments that come after it
-  unfoldable pub then_turn : (ℕ → Entry) → Term → ℕ → Entry
-  then_turn k u m = after u (k m)
-
-  -- the arguments from left to right, with the steps that the one before left
-  abbrev pub in_turn : List (List Term → ℕ → Item) → List Term → ℕ → Entry
-  in_turn [] a n = At [] n
-  in_turn (f ∷ fs) a n = row_of (f a n) (then_turn (in_turn fs a))
-
-  -- the canonical node of normalised arguments, settled
-  unfoldable pub settled_node : OpId → List Term → ℕ → Item
-  settled_node op us m = settled (node (shapes_of p.signature) op us) m
+  -- the meaning of the canonical node of these arguments
+  unfoldable pub of_args : OpId → List Term → ℕ → Item
+  of_args op us m = of_node (node (shapes_of p.signature) op us) m
 
   -- a variable gives its value as it is
   abbrev pub of_var : ℕ → SortId → List Term → ℕ → Item
   of_var x sort a n = Res (value_of a x) n
 
-  -- an integer is settled
+  -- an integer is a node
   abbrev pub of_int : ℤ → List Term → ℕ → Item
-  of_int z a n = settled (int_term z) n
+  of_int z a n = of_node (int_term z) n
 
-  -- an application is settled where its arguments gave no mark
+  -- an application gives what the canonical node of its arguments' results gives, or the first mark
+  -- among them
   abbrev pub of_app : OpId → List (List Term → ℕ → Item) → List Term → ℕ → Item
-  of_app op args a n = one_of (in_turn args a n) (settled_node op)
+  of_app op args a n = one_of (in_turn args a n) (of_args op)
 
   -- the one item of a pattern under an assignment
   unfoldable pub normal : Pattern → List Term → ℕ → Item
   normal = fold_pattern of_var of_int of_app
 
   -- ---- strategies at positions
-
-  -- an argument's result before each row of the arguments that come after it
-  unfoldable pub then_rows : (ℕ → List Entry) → Term → ℕ → List Entry
-  then_rows k u m = before u (k m)
-
-  -- the arguments from left to right, with all their results
-  abbrev pub rows : List (ℕ → List Item) → ℕ → List Entry
-  rows [] n = At [] n ∷ []
-  rows (f ∷ fs) n = rows_of (f n) (then_rows (rows fs))
 
   -- each result worked on again as a whole, and the node itself where there is none
   abbrev pub again_or : SortId → Strategy → Term → ℕ → List Item → List Item
@@ -132,7 +116,8 @@ module _ (p : Program) (below : Meaning) where
   unfoldable pub placed : SortId → Strategy → Term → ℕ → List Item
   placed sort s u m =
       if nat_lt max_depth (depth u) then Mark Depth ∷ []
-      else (if is_sort (sort_of (shapes_of p.signature) u) sort then at_node sort s u m else Res u m ∷ [])
+      else (if is_sort (sort_of (shapes_of p.signature) u) sort then at_node sort s u m
+      else Res u m ∷ [])
 
   -- the canonical node of one row of results
   unfoldable pub placed_node : SortId → Strategy → OpId → List Term → ℕ → List Item
@@ -161,16 +146,12 @@ module _ (p : Program) (below : Meaning) where
   unfoldable pub apply_number : Term → ℕ → ℕ → List Item
   apply_number t n k = apply_found t n (slice_get p.rules k)
 
-  -- a named strategy: its call costs a step
-  abbrev pub call : Option Named → Term → ℕ → List Item
-  call d t zero = Mark Steps ∷ []
-  call None t (suc n) = []
-  call (Some d) t (suc n) = below.strategy d.body t n
-
-  -- one strategy after the other, each on each result
-  abbrev pub sequence : List (Term → ℕ → List Item) → Term → ℕ → List Item
-  sequence [] t n = Res t n ∷ []
-  sequence (f ∷ fs) t n = on_results (f t n) (sequence fs)
+  -- a named strategy: its call costs a step, and its body stands with the actuals in the places of
+  -- its parameters
+  abbrev pub call : Option Named → List Strategy → Term → ℕ → List Item
+  call d actuals t zero = Mark Steps ∷ []
+  call None actuals t (suc n) = []
+  call (Some d) actuals t (suc n) = below.strategy (with_actuals actuals d.body) t n
 
   -- `repeat*` again on each result, and the term itself where there is none
   abbrev pub repeat_or : Strategy → Term → ℕ → List Item → List Item
@@ -187,9 +168,30 @@ module _ (p : Program) (below : Meaning) where
   iterate s t zero = Mark Steps ∷ []
   iterate s t (suc n) = Res t n ∷ on_results (below.strategy s t n) (below.strategy (record { node = made.Iterate s }))
 
+  -- `iterate+`: its start costs a step, and the term itself is left out
+  abbrev pub iterate_plus : Strategy → Term → ℕ → List Item
+  iterate_plus s t zero = Mark Steps ∷ []
+  iterate_plus s t (suc n) =
+      on_results (below.strategy s t n) (below.strategy (record { node = made.Iterate s }))
+
   -- the whole term normalised by the unlabelled rules
   unfoldable pub normal_term : Term → ℕ → List Item
   normal_term u m = normal (pattern_of u) [] m ∷ []
+
+  -- an operator over one row of results, normalised as a whole
+  unfoldable pub normal_app : OpId → List Term → ℕ → List Item
+  normal_app op us m = normal_term (app_term op us) m
+
+  -- a congruence on an integer
+  abbrev pub not_headed : ℤ → List Item
+  not_headed z = []
+
+  -- A congruence on an application: nothing where another operator heads it. Else the arguments are
+  -- taken from left to right, each with all items of its strategy, and each row of results is
+  -- normalised as a whole.
+  abbrev pub congruent : OpId → List (Term → ℕ → List Item) → ℕ → OpId → List Term → List Item
+  congruent op fs n head us =
+      if op.0 == head.0 then items_of (rows (paired fs us) n) (normal_app op) else []
 
   -- the list of an arm
   unfoldable pub arm_list : Term → ℕ → Strategy × (Term → ℕ → List Item) → List Item
@@ -200,12 +202,15 @@ module _ (p : Program) (below : Meaning) where
   at_level layer.Id t n = Res t n ∷ []
   at_level layer.Fail t n = []
   at_level (layer.Label rules) t n = flat_map (apply_number t n) rules
-  at_level (layer.Call d) t n = call (slice_get p.named d) t n
-  at_level (layer.Seq arms) t n = sequence (map (λ s. s.1) arms) t n
+  at_level (layer.Call d actuals) t n = call (slice_get p.named d) (firsts actuals) t n
+  at_level (layer.Param number) t n = []
+  at_level (layer.Seq arms) t n = sequence (seconds arms) t n
   at_level (layer.All arms) t n = flat_map (arm_list t n) arms
   at_level (layer.First one arms) t n = chosen one (first_of (map (arm_list t n) arms))
   at_level (layer.Repeat s) t n = repeat s.0 t n
   at_level (layer.Iterate s) t n = iterate s.0 t n
+  at_level (layer.IteratePlus s) t n = iterate_plus s.0 t n
+  at_level (layer.Cong op arms) t n = case_term not_headed (congruent op (seconds arms) n) t
   at_level (layer.Normalise sort s) t n = on_results (positions sort s.0 t n) normal_term
 
   -- the list of a strategy on a term
@@ -228,13 +233,9 @@ module _ (p : Program) (below : Meaning) where
   if_result (Mark c) k = Stop c ∷ []
   if_result (Res t m) k = k t m
 
-  -- what follows a match, whose values stand behind those that are bound
-  unfoldable pub extended : (List Term → ℕ → List Entry) → List Term → ℕ → List Term → List Entry
-  extended rest a n b = rest (a ++ b) n
-
   -- what follows a result in which the pattern is sought
   unfoldable pub found : Pattern → (List Term → ℕ → List Entry) → List Term → Term → ℕ → List Entry
-  found left rest a v n = flat_map (extended rest a n) (matches (shapes_of p.signature) left v)
+  found left rest a v n = flat_map (matched rest a n) (matches (shapes_of p.signature) left v)
 
   -- what follows a term to which the strategy is applied
   unfoldable pub sought : Pattern → Strategy → (List Term → ℕ → List Entry) → List Term → Term → ℕ → List Entry
@@ -252,7 +253,12 @@ module _ (p : Program) (below : Meaning) where
 
 -- below the lowest level there is nothing, and no step is left there to look at it
 abbrev pub nothing : Meaning
-nothing = record { normal = λ _ _ _. Mark Steps; clauses = λ _ _ _. []; positions = λ _ _ _ _. []; strategy = λ _ _ _. [] }
+nothing = record {
+  normal = λ _ _ _. Mark Steps;
+  clauses = λ _ _ _. [];
+  positions = λ _ _ _ _. [];
+  strategy = λ _ _ _. [];
+}
 
 module _ (p : Program) where
   -- the meaning in which fewer than this many steps may be taken

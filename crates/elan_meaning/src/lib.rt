@@ -1,4 +1,5 @@
-//! What a program means: the items of normalising, of rules and of strategies, and the laws of steps.
+//! What a program means: the items of normalising, of rules and of strategies, row by row, and the
+//! laws of steps.
 #![tactic(auto)]
 
 mod item;

@@ -16,5 +16,8 @@ returns-clause-positions c = λ p sort s t n k. laws.positions_more p n k sort s
 pub returns-clause-normal : goal.returns-clause-normal
 returns-clause-normal c = λ p q a n k. laws.normal_more p n k q a
 
+pub returns-clause-node : goal.returns-clause-node
+returns-clause-node c = λ p u n k. laws.node_more p n k u
+
 pub returns-clause-answers : goal.returns-clause-answers
 returns-clause-answers c = λ p s q n k. laws.answers_more p n k s q

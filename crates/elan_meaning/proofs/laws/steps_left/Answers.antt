@@ -16,5 +16,8 @@ returns-clause-positions c = λ p sort s t n. laws.positions_left p n sort s t
 pub returns-clause-normal : goal.returns-clause-normal
 returns-clause-normal c = λ p q a n. laws.normal_left p n q a
 
+pub returns-clause-node : goal.returns-clause-node
+returns-clause-node c = λ p u n. laws.node_left p n u
+
 pub returns-clause-answers : goal.returns-clause-answers
 returns-clause-answers c = λ p s q n. laws.answers_left p n s q

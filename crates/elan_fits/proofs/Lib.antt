@@ -1,0 +1,13 @@
+pub mod PlainLemmas
+pub mod PlaceLemmas
+pub mod ValueLemmas
+pub mod StepLemmas
+pub mod MatchLemmas
+pub mod Slices
+pub mod TimesLemmas
+pub mod StrikeLemmas
+pub mod LookLemmas
+pub mod WalkLemmas
+pub mod StageLemmas
+pub mod TestLemmas
+pub mod Numbers

@@ -1,0 +1,5 @@
+pub mod Plain
+pub mod Places
+pub mod Values
+pub mod Looks
+pub mod Walks

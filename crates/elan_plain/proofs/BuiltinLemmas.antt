@@ -1,18 +1,21 @@
 -- The equations of truth values, of integers and of built-in operations.
-use Rattle.std.proofs.Common.{◌≡◌, refl, sym, ◌∙◌, ap, ℕ, zero, suc, ℤ, pos, negsuc, true, false, List, [], ◌∷◌, length, arith}
-use Rattle.std.specs.Prelude.{◌^◌, ◌<◌, ◌≤◌, nat_lt, None, Some, ◌≢◌, int_rem, int_div, neg_ℤ, FitsSigned}
-use Rattle.std.specs.Int.{w64, CanDivide, cast_unsigned}
-use Rattle.std.proofs.lemmas.Bool.{lt-ltb, le-ltb}
-use Rattle.std.proofs.Math.Nat.{mod-one}
+use Rattle.std.proofs.Common.{◌≡◌, refl, sym, ◌∙◌, ap, subst, ℤ, Bool, false, Option, Some, None, List, [], ◌∷◌, length, arith}
+use Rattle.std.specs.Prelude.{◌<◌, ◌≤◌}
 use Rattle.elan_terms.specs.declared.tree.OpId.{OpId}
 use Rattle.elan_terms.specs.declared.tree.Term.{Term}
 use Rattle.elan_terms.specs.declared.tree.TermNode as term
 use Rattle.elan_terms.specs.Trees.{int_term}
+use Rattle.elan_terms.specs.Term.{same}
 use Rattle.elan_terms.proofs.TreeLemmas.{case_term-app}
+use Rattle.elan_terms.proofs.OrderLemmas.{same-equal, equal-same}
+use Rattle.elan_program.specs.declared.signature.Builtin.{Builtin}
 use Rattle.elan_program.specs.declared.signature.Truth.{Truth}
 use Rattle.elan_program.specs.declared.signature.Signature.{Signature}
 use Rattle.elan_program.specs.Signature.{builtin_at}
-use Rattle.elan_program.specs.Builtins.{truth_of, constant, int_of, value_in, value_by, in_range, unless_zero}
+use Rattle.elan_program.specs.Builtins.{truth_of, constant, int_of, value_in, value_by}
+use Rattle.elan_builtin.specs.declared.operand.Operand.{Operand}
+use Rattle.elan_builtin.specs.declared.operand.Reduced.{Reduced}
+use Rattle.elan_builtin.specs.Stands.{Stands, StandFor, TellsSame, term_of}
 
 -- ---- truth values
 
@@ -73,70 +76,32 @@ module _ (g : Signature) (t : Term) where
 
 pub ruleset values = (value_in-int, value_in-app)
 
--- ---- ranges
+-- ---- operands
 
-within : (n : ℕ) → n < 2 ^ 63 → nat_lt n (2 ^ 63) ≡ true
-within n lt = lt-ltb n (2 ^ 63) lt
+module _ (truth : Option Truth) (t : Term) where
+  pub stands-int : (z : ℤ) → t.node ≡ term.Int z → t ≡ int_term z
+  stands-int z e = ap (λ i. record { node = i }) e
 
-past : (n : ℕ) → 2 ^ 63 ≤ n → nat_lt n (2 ^ 63) ≡ false
-past n le = le-ltb n (2 ^ 63) le
+  pub no_int : (op : OpId) (args : List Term) → t.node ≡ term.App op args → int_of t ≡ None
+  no_int op args e = sym (int_of-app t op args e)
 
-pub in_range-out : (z : ℤ) → ¬ (FitsSigned w64 z) → None ≡ in_range z
-unfolding in_range
-in_range-out (pos n) out =
-    let high : ¬ (n < 2 ^ 63) = λ lt. out (record { sfits = lt }) in
-    let le : 2 ^ 63 ≤ n = omega arith in
-    rw (past n le) refl
-in_range-out (negsuc n) out =
-    let high : ¬ (n < 2 ^ 63) = λ lt. out (record { sfits = lt }) in
-    let le : 2 ^ 63 ≤ suc n = omega arith in
-    rw (past (suc n) le) refl
+pub ruleset stands = (stands-int, no_int)
 
-pub in_range-in : (z : ℤ) → FitsSigned w64 z → z ≢ negsuc 9223372036854775807 → Some (int_term z) ≡ in_range z
-unfolding in_range
-in_range-in (pos n) fits other = rw (within n fits.sfits) refl
-in_range-in (negsuc n) fits other =
-    let low : n < 2 ^ 63 = fits.sfits in
-    let not_last : n ≢ 9223372036854775807 = λ e. other (ap (λ k. negsuc k) e) in
-    let lt : suc n < 2 ^ 63 = omega arith in
-    rw (within (suc n) lt) refl
+-- what is told of one operand, and of two
+module _ (truth : Option Truth) (b : Builtin) where
+  pub of_one : (os : List Operand) (o : Operand) (t : Term) (r : Option Reduced) → os ≡ o ∷ [] → Stands truth o t
+      → ((g : Option Truth) (ts : List Term) → StandFor g os ts → TellsSame false ts → value_by g (Some b) ts ≡ term_of g r)
+      → value_by truth (Some b) (t ∷ []) ≡ term_of truth r
+  of_one os o t r is stands told =
+      let P : List Operand → Type 0 = λ qs. StandFor truth qs (t ∷ []) in
+      told truth (t ∷ []) (subst P (sym is) (stands, tt)) tt
 
-pub in_range-least : (z : ℤ) → z ≡ negsuc 9223372036854775807 → None ≡ in_range z
-unfolding in_range
-in_range-least z e = sym (ap (λ i. in_range i) e)
+  pub of_two : (os : List Operand) (o q : Operand) (t u : Term) (equal : Bool) (r : Option Reduced) → os ≡ o ∷ q ∷ []
+      → Stands truth o t → Stands truth q u → equal ≡ same t u
+      → ((g : Option Truth) (ts : List Term) → StandFor g os ts → TellsSame equal ts → value_by g (Some b) ts ≡ term_of g r)
+      → value_by truth (Some b) (t ∷ u ∷ []) ≡ term_of truth r
+  of_two os o q t u equal r is left right e told =
+      let P : List Operand → Type 0 = λ qs. StandFor truth qs (t ∷ u ∷ []) in
+      told truth (t ∷ u ∷ []) (subst P (sym is) (left, (right, tt))) (λ yes. same-equal t u (sym e ∙ yes), λ f. e ∙ equal-same t u f)
 
-pub ruleset ranges = (in_range-out, in_range-in, in_range-least)
-
--- ---- quotients
-
-pub unless_zero-by : (y z : ℤ) → y ≢ pos 0 → in_range z ≡ unless_zero y z
-unfolding unless_zero
-unless_zero-by (pos zero) z other = absurd (other refl)
-unless_zero-by (pos (suc n)) z other = refl
-unless_zero-by (negsuc n) z other = refl
-
-pub unless_zero-zero : (y z : ℤ) → y ≡ pos 0 → None ≡ unless_zero y z
-unfolding unless_zero
-unless_zero-zero y z e = sym (ap (λ i. unless_zero i z) e)
-
--- what is not 0 has a bit that is not 0
-has_bits : (y : ℤ) → FitsSigned w64 y → y ≢ pos 0 → 0 < cast_unsigned w64 y
-has_bits (pos zero) fits other = absurd (other refl)
-has_bits (pos (suc n)) fits other = omega arith
-has_bits (negsuc n) fits other = let low : n < 2 ^ 63 = fits.sfits in omega arith
-
-pub unless_zero-out : (x y : ℤ) → FitsSigned w64 y → y ≢ pos 0 → ¬ (CanDivide w64 x y) → None ≡ unless_zero y (int_div x y)
-unless_zero-out x y fits other cannot = in_range-out (int_div x y) (λ f. cannot (has_bits y fits other, f)) ∙ unless_zero-by y (int_div x y) other
-
-by_minus_one : (x : ℤ) → pos 0 ≡ int_rem x (negsuc 0)
-by_minus_one (pos a) = ap (λ i. pos i) (sym (mod-one a))
-by_minus_one (negsuc a) = ap (λ i. neg_ℤ (pos i)) (sym (mod-one (suc a)))
-
-pub unless_zero-minus_one : (x y : ℤ) → y ≡ negsuc 0 → in_range (pos 0) ≡ unless_zero y (int_rem x y)
-unless_zero-minus_one x y e =
-    ap in_range (by_minus_one x) ∙ unless_zero-by (negsuc 0) (int_rem x (negsuc 0)) (λ f. no f) ∙ sym (ap (λ i. unless_zero i (int_rem x i)) e)
-  where
-    no : negsuc 0 ≡ pos 0 → ⊥
-    no f = cc
-
-pub ruleset quotients = (unless_zero-by, unless_zero-zero, unless_zero-out, unless_zero-minus_one)
+pub ruleset reductions = (of_one, of_two)

@@ -1,3 +1,4 @@
+pub mod Closing
 pub mod ListLemmas
 pub mod LevelLemmas
 pub mod BuiltinLemmas

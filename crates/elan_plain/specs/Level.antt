@@ -1,5 +1,5 @@
 -- The meaning at one level of the engine, in the words of the definitions.
-use Rattle.std.specs.Prelude.{ℕ, Option, List}
+use Rattle.std.specs.Prelude.{ℕ, ℤ, Option, List}
 use Rattle.elan_terms.specs.declared.tree.OpId.{OpId}
 use Rattle.elan_terms.specs.declared.tree.SortId.{SortId}
 use Rattle.elan_terms.specs.declared.tree.Term.{Term}
@@ -10,8 +10,10 @@ use Rattle.elan_program.specs.declared.program.Rule.{Rule}
 use Rattle.elan_program.specs.declared.program.Named.{Named}
 use Rattle.elan_meaning.specs.declared.item.Item.{Item}
 use Rattle.elan_meaning.specs.declared.item.Entry.{Entry}
+use Rattle.elan_meaning.specs.Items as items
 use Rattle.elan_meaning.specs.Meaning as meaning
 use Rattle.elan_plain.specs.declared.world.World.{World}
+use Rattle.elan_plain.specs.Engine as engine
 use Rattle.elan_plain.specs.Engine.{under}
 
 module _ (w : World) (level : ℕ) where
@@ -25,19 +27,19 @@ module _ (w : World) (level : ℕ) where
   abbrev pub apply : Rule → Term → ℕ → List Item
   apply = meaning.apply w.program.now (under w level)
 
-  -- the first of these rules that gives an item
-  abbrev pub tried : List Rule → Term → ℕ → List Item
-  tried = meaning.tried w.program.now (under w level)
+  -- the same with the rule last
+  abbrev pub apply_on : Term → ℕ → Rule → List Item
+  apply_on = engine.apply_on w.program.now (under w level)
 
   -- ---- normalising
 
-  -- a canonical node on its own
-  abbrev pub settled : Term → ℕ → Item
-  settled = meaning.settled w.program.now (under w level)
+  -- a canonical node
+  abbrev pub of_node : Term → ℕ → Item
+  of_node = meaning.of_node w.program.now (under w level)
 
   -- arguments from left to right
   abbrev pub in_turn : List (List Term → ℕ → Item) → List Term → ℕ → Entry
-  in_turn = meaning.in_turn w.program.now (under w level)
+  in_turn = items.in_turn
 
   -- a pattern under an assignment
   abbrev pub normal : Pattern → List Term → ℕ → Item
@@ -63,7 +65,7 @@ module _ (w : World) (level : ℕ) where
 
   -- the rows of arguments with all their results
   abbrev pub rows : List (ℕ → List Item) → ℕ → List Entry
-  rows = meaning.rows w.program.now (under w level)
+  rows = items.rows
 
   -- all positions in a term
   abbrev pub positions : SortId → Strategy → Term → ℕ → List Item
@@ -76,12 +78,12 @@ module _ (w : World) (level : ℕ) where
   apply_number = meaning.apply_number w.program.now (under w level)
 
   -- a named strategy
-  abbrev pub call : Option Named → Term → ℕ → List Item
+  abbrev pub call : Option Named → List Strategy → Term → ℕ → List Item
   call = meaning.call w.program.now (under w level)
 
   -- one strategy after the other
   abbrev pub sequence : List (Term → ℕ → List Item) → Term → ℕ → List Item
-  sequence = meaning.sequence w.program.now (under w level)
+  sequence = items.sequence
 
   -- `repeat*`
   abbrev pub repeat : Strategy → Term → ℕ → List Item
@@ -90,6 +92,26 @@ module _ (w : World) (level : ℕ) where
   -- `iterate*`
   abbrev pub iterate : Strategy → Term → ℕ → List Item
   iterate = meaning.iterate w.program.now (under w level)
+
+  -- `iterate+`
+  abbrev pub iterate_plus : Strategy → Term → ℕ → List Item
+  iterate_plus = meaning.iterate_plus w.program.now (under w level)
+
+  -- an operator over a row of results
+  abbrev pub normal_app : OpId → List Term → ℕ → List Item
+  normal_app = meaning.normal_app w.program.now (under w level)
+
+  -- a congruence on an integer
+  abbrev pub not_headed : ℤ → List Item
+  not_headed = meaning.not_headed w.program.now (under w level)
+
+  -- a congruence on an application
+  abbrev pub congruent : OpId → List (Term → ℕ → List Item) → ℕ → OpId → List Term → List Item
+  congruent = meaning.congruent w.program.now (under w level)
+
+  -- each strategy on the argument of its place
+  abbrev pub paired : List (Term → ℕ → List Item) → List Term → List (ℕ → List Item)
+  paired = items.paired
 
   -- a strategy on a term
   abbrev pub strategy : Strategy → Term → ℕ → List Item
@@ -110,8 +132,8 @@ module _ (w : World) (level : ℕ) where
   if_result = meaning.if_result w.program.now (under w level)
 
   -- what follows a match
-  abbrev pub extended : (List Term → ℕ → List Entry) → List Term → ℕ → List Term → List Entry
-  extended = meaning.extended w.program.now (under w level)
+  abbrev pub matched : (List Term → ℕ → List Entry) → List Term → ℕ → List Term → List Entry
+  matched = items.matched
 
   -- what follows a result in which a pattern is sought
   abbrev pub found : Pattern → (List Term → ℕ → List Entry) → List Term → Term → ℕ → List Entry

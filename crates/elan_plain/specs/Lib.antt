@@ -1,2 +1,3 @@
+pub mod Closures
 pub mod Engine
 pub mod Level

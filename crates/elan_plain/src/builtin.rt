@@ -1,8 +1,10 @@
-//! The values of built-in operations.
+//! The values of built-in operations on terms.
 
-ghost use Rattle.std.specs.Prelude.{◌≡◌, ◌+ℤ◌, ◌-ℤ◌, ◌*ℤ◌, int_div, int_rem, ◌&&◌, ◌||◌, Some, []};
+ghost use Rattle.std.specs.Prelude.{◌≡◌, ◌∷◌, [], None, Some};
 ghost use Rattle.elan_program.specs.Builtins as spec;
+ghost use Rattle.elan_builtin.specs.Stands.{Stands, term_of as spec_term_of};
 
+use elan_builtin::{Operand, Reduced, reduce};
 use elan_program::{Builtin, Signature, Truth};
 use elan_terms::{OpId, Term, TermNode, compare};
 use sqlite_items::Items;
@@ -55,6 +57,29 @@ fn truth_of(truth: &Option<Truth>, term: &Term) -> Option<bool>
     }
 }
 
+/// What an application is to an operation.
+#[tactic(auto, using(crate::proofs::BuiltinLemmas::stands))]
+fn truth_operand(truth: &Option<Truth>, term: &Term) -> Operand
+    requires { spec.int_of term.now ≡ None }
+    ensures { Stands truth.now result term.now }
+{
+    match truth_of(truth, term) {
+        None => Operand::Other,
+        Some(value) => Operand::Truth(value),
+    }
+}
+
+/// What a term is to an operation.
+#[tactic(auto, using(crate::proofs::BuiltinLemmas::stands))]
+fn operand(truth: &Option<Truth>, term: &Term) -> Operand
+    ensures { Stands truth.now result term.now }
+{
+    match &term.node {
+        TermNode::Int(z) => Operand::Int(*z),
+        TermNode::App(_, _) => truth_operand(truth, term),
+    }
+}
+
 /// The constant of a truth value, where there are truth values.
 fn said(alloc: Global, truth: &Option<Truth>, value: bool) -> Option<Term>
     ensures { result ≡ spec.said truth.now value }
@@ -67,196 +92,40 @@ fn said(alloc: Global, truth: &Option<Truth>, value: bool) -> Option<Term>
     }
 }
 
-fn both(alloc: Global, truth: &Option<Truth>, x: Option<bool>, y: Option<bool>) -> Option<Term>
-    ensures { result ≡ spec.of_truths truth.now (λ a b. a && b) x y }
+/// The value of an operation as a term.
+fn term_of(alloc: Global, truth: &Option<Truth>, value: Option<Reduced>) -> Option<Term>
+    ensures { result ≡ spec_term_of truth.now value }
 {
-    match x {
+    match value {
         None => None,
-        Some(a) => match y {
-            None => None,
-            Some(b) => said(alloc, truth, a && b),
-        },
-    }
-}
-
-fn either(alloc: Global, truth: &Option<Truth>, x: Option<bool>, y: Option<bool>) -> Option<Term>
-    ensures { result ≡ spec.of_truths truth.now (λ a b. a || b) x y }
-{
-    match x {
-        None => None,
-        Some(a) => match y {
-            None => None,
-            Some(b) => said(alloc, truth, a || b),
-        },
-    }
-}
-
-fn other(alloc: Global, truth: &Option<Truth>, x: Option<bool>) -> Option<Term>
-    ensures { result ≡ spec.of_truth truth.now x }
-{
-    match x {
-        None => None,
-        Some(a) => said(alloc, truth, !a),
-    }
-}
-
-#[tactic(auto, using(crate::proofs::BuiltinLemmas::ints))]
-fn int_of(term: &Term) -> Option<i64>
-    ensures { result ≡ spec.int_of term.now }
-{
-    match &term.node {
-        TermNode::Int(z) => Some(*z),
-        TermNode::App(_, _) => None,
-    }
-}
-
-/// An integer as a term; the least `i64` is none.
-#[tactic(auto, using(crate::proofs::BuiltinLemmas::ranges))]
-fn in_range(z: i64) -> Option<Term>
-    ensures { result ≡ spec.in_range z }
-{
-    if z == i64::MIN {
-        None
-    } else {
-        Some(Term {
+        Some(Reduced::Int(z)) => Some(Term {
             node: TermNode::Int(z),
-        })
+        }),
+        Some(Reduced::Truth(value)) => said(alloc, truth, value),
     }
 }
 
-#[tactic(auto, using(crate::proofs::BuiltinLemmas::ranges))]
-fn sum(x: i64, y: i64) -> Option<Term>
-    ensures { result ≡ spec.in_range (x +ℤ y) }
+#[tactic(auto, using(crate::proofs::BuiltinLemmas::reductions))]
+fn of_one(alloc: Global, truth: &Option<Truth>, builtin: Builtin, term: &Term) -> Option<Term>
+    ensures { result ≡ spec.value_by truth.now (Some builtin) (term.now ∷ []) }
 {
-    match x.checked_add(y) {
-        None => None,
-        Some(z) => in_range(z),
-    }
+    let value = reduce(builtin, [operand(truth, term)].as_slice(), false);
+    term_of(alloc, truth, value)
 }
 
-#[tactic(auto, using(crate::proofs::BuiltinLemmas::ranges))]
-fn difference(x: i64, y: i64) -> Option<Term>
-    ensures { result ≡ spec.in_range (x -ℤ y) }
-{
-    match x.checked_sub(y) {
-        None => None,
-        Some(z) => in_range(z),
-    }
-}
-
-#[tactic(auto, using(crate::proofs::BuiltinLemmas::ranges))]
-fn product(x: i64, y: i64) -> Option<Term>
-    ensures { result ≡ spec.in_range (x *ℤ y) }
-{
-    match x.checked_mul(y) {
-        None => None,
-        Some(z) => in_range(z),
-    }
-}
-
-#[tactic(auto, using(crate::proofs::BuiltinLemmas::ranges, crate::proofs::BuiltinLemmas::quotients))]
-fn quotient(x: i64, y: i64) -> Option<Term>
-    ensures { result ≡ spec.unless_zero y (int_div x y) }
-{
-    if y == 0 {
-        return None;
-    }
-    match x.checked_div(y) {
-        None => None,
-        Some(z) => in_range(z),
-    }
-}
-
-#[tactic(auto, using(crate::proofs::BuiltinLemmas::ranges, crate::proofs::BuiltinLemmas::quotients))]
-fn remainder(x: i64, y: i64) -> Option<Term>
-    ensures { result ≡ spec.unless_zero y (int_rem x y) }
-{
-    if y == 0 {
-        None
-    } else if y == -1 {
-        in_range(0)
-    } else {
-        in_range(x % y)
-    }
-}
-
-/// An operation of two integers.
-#[tactic(auto, unfolding(elan_program::specs::Builtins::int_value))]
-fn int_value(alloc: Global, truth: &Option<Truth>, builtin: Builtin, x: i64, y: i64) -> Option<Term>
-    ensures { result ≡ spec.int_value truth.now builtin x y }
-{
-    match builtin {
-        Builtin::Add => sum(x, y),
-        Builtin::Sub => difference(x, y),
-        Builtin::Mul => product(x, y),
-        Builtin::Div => quotient(x, y),
-        Builtin::Mod => remainder(x, y),
-        Builtin::Less => said(alloc, truth, x < y),
-        Builtin::LessOrSame => said(alloc, truth, x <= y),
-        Builtin::Greater => said(alloc, truth, x > y),
-        Builtin::GreaterOrSame => said(alloc, truth, x >= y),
-        Builtin::IntSame => said(alloc, truth, x == y),
-        Builtin::IntDiffer => said(alloc, truth, x != y),
-        Builtin::Yes | Builtin::No | Builtin::And | Builtin::Or | Builtin::Not => None,
-        Builtin::Same | Builtin::Differ => None,
-    }
-}
-
-fn of_ints(
-    alloc: Global,
-    truth: &Option<Truth>,
-    builtin: Builtin,
-    x: Option<i64>,
-    y: Option<i64>,
-) -> Option<Term>
-    ensures { result ≡ spec.of_ints (spec.int_value truth.now builtin) x y }
-{
-    match x {
-        None => None,
-        Some(a) => match y {
-            None => None,
-            Some(b) => int_value(alloc, truth, builtin, a, b),
-        },
-    }
-}
-
-/// An operation of two arguments.
-fn binary(
+#[tactic(auto, using(crate::proofs::BuiltinLemmas::reductions))]
+fn of_two(
     alloc: Global,
     truth: &Option<Truth>,
     builtin: Builtin,
     first: &Term,
     second: &Term,
 ) -> Option<Term>
-    ensures { result ≡ spec.binary truth.now builtin first.now second.now }
+    ensures { result ≡ spec.value_by truth.now (Some builtin) (first.now ∷ second.now ∷ []) }
 {
-    match builtin {
-        Builtin::And => both(
-            alloc,
-            truth,
-            truth_of(truth, first),
-            truth_of(truth, second),
-        ),
-        Builtin::Or => either(
-            alloc,
-            truth,
-            truth_of(truth, first),
-            truth_of(truth, second),
-        ),
-        Builtin::Same => said(alloc, truth, compare(first, second).is_eq()),
-        Builtin::Differ => said(alloc, truth, !compare(first, second).is_eq()),
-        _ => of_ints(alloc, truth, builtin, int_of(first), int_of(second)),
-    }
-}
-
-/// An operation of one argument.
-fn unary(alloc: Global, truth: &Option<Truth>, builtin: Builtin, term: &Term) -> Option<Term>
-    ensures { result ≡ spec.unary truth.now builtin term.now }
-{
-    match builtin {
-        Builtin::Not => other(alloc, truth, truth_of(truth, term)),
-        _ => None,
-    }
+    let operands = [operand(truth, first), operand(truth, second)];
+    let same = compare(first, second).is_eq();
+    term_of(alloc, truth, reduce(builtin, operands.as_slice(), same))
 }
 
 fn value_by(
@@ -270,8 +139,8 @@ fn value_by(
     match builtin {
         None => None,
         Some(builtin) => match args {
-            [term] => unary(alloc, truth, builtin, term),
-            [first, second] => binary(alloc, truth, builtin, first, second),
+            [term] => of_one(alloc, truth, builtin, term),
+            [first, second] => of_two(alloc, truth, builtin, first, second),
             _ => None,
         },
     }

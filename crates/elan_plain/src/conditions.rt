@@ -7,11 +7,11 @@ ghost use Rattle.elan_plain.specs.Engine.{Gives, IsWorld, under};
 ghost use Rattle.elan_plain.specs.Level as spec;
 
 use crate::builtin::is_true;
-use crate::lists::{met, stop};
+use crate::lists::{joined, met, stop};
 use crate::{Ask, Level, World};
 use elan_meaning::{Entry, Item};
 use elan_program::{Clause, Rule, Strategy};
-use elan_terms::{Pattern, Term, copy_onto};
+use elan_terms::{Pattern, Term};
 use elan_text::NoMemory;
 use sqlite_items::Items;
 use std::alloc::Global;
@@ -28,7 +28,8 @@ impl<F: Fn(Global, u32, &World<'_>, Ask<'_>, u32) -> Result<Items<Item>, NoMemor
     ) -> Result<Items<Entry>, NoMemory>
         requires lower { Gives self.now.level (F.pre self.now.below) (F.post self.now.below) }
         requires world { IsWorld world.now }
-        ensures { IfOk result (λ es. es ≡ spec.clauses world.now self.now.level clauses.now values.now n) }
+        ensures { IfOk result (λ es.
+            es ≡ spec.clauses world.now self.now.level clauses.now values.now n) }
     {
         match clauses {
             [] => met(self.alloc, values, n),
@@ -48,7 +49,8 @@ impl<F: Fn(Global, u32, &World<'_>, Ask<'_>, u32) -> Result<Items<Item>, NoMemor
     ) -> Result<Items<Entry>, NoMemory>
         requires lower { Gives self.now.level (F.pre self.now.below) (F.post self.now.below) }
         requires world { IsWorld world.now }
-        ensures { IfOk result (λ es. es ≡ spec.clauses world.now self.now.level (first.now ∷ rest.now) values.now n) }
+        ensures { IfOk result (λ es.
+            es ≡ spec.clauses world.now self.now.level (first.now ∷ rest.now) values.now n) }
     {
         match first {
             Clause::If(test) => {
@@ -73,7 +75,9 @@ impl<F: Fn(Global, u32, &World<'_>, Ask<'_>, u32) -> Result<Items<Item>, NoMemor
     ) -> Result<Items<Entry>, NoMemory>
         requires lower { Gives self.now.level (F.pre self.now.below) (F.post self.now.below) }
         requires world { IsWorld world.now }
-        ensures { IfOk result (λ es. es ≡ spec.if_true world.now self.now.level item (spec.clauses world.now self.now.level rest.now values.now)) }
+        ensures { IfOk result (λ es.
+            es ≡ spec.if_true world.now self.now.level item
+            (spec.clauses world.now self.now.level rest.now values.now)) }
     {
         match item {
             Item::Mark(cause) => stop(self.alloc, cause),
@@ -100,12 +104,15 @@ impl<F: Fn(Global, u32, &World<'_>, Ask<'_>, u32) -> Result<Items<Item>, NoMemor
     ) -> Result<Items<Entry>, NoMemory>
         requires lower { Gives self.now.level (F.pre self.now.below) (F.post self.now.below) }
         requires world { IsWorld world.now }
-        ensures { IfOk result (λ es. es ≡ spec.if_result world.now self.now.level item (spec.sought world.now self.now.level left.now by.now (spec.clauses world.now self.now.level rest.now) values.now)) }
+        ensures { IfOk result (λ es.
+            es ≡ spec.if_result world.now self.now.level item
+            (spec.sought world.now self.now.level left.now by.now
+            (spec.clauses world.now self.now.level rest.now) values.now)) }
     {
         match item {
             Item::Mark(cause) => stop(self.alloc, cause),
             Item::Res(term, m) => {
-                let items = self.strategy(world, by, &term, m)?;
+                let items = self.outside(world, by, &term, m)?;
                 self.each_found(world, left, rest, values, items)
             }
         }
@@ -123,7 +130,10 @@ impl<F: Fn(Global, u32, &World<'_>, Ask<'_>, u32) -> Result<Items<Item>, NoMemor
     ) -> Result<Items<Entry>, NoMemory>
         requires lower { Gives self.now.level (F.pre self.now.below) (F.post self.now.below) }
         requires world { IsWorld world.now }
-        ensures { IfOk result (λ es. es ≡ rows_of items (spec.found world.now self.now.level left.now (spec.clauses world.now self.now.level rest.now) values.now)) }
+        ensures { IfOk result (λ es.
+            es ≡ rows_of items
+            (spec.found world.now self.now.level left.now
+            (spec.clauses world.now self.now.level rest.now) values.now)) }
     {
         let mut out = Items::new(self.alloc);
         for item in items.as_slice() {
@@ -151,9 +161,12 @@ impl<F: Fn(Global, u32, &World<'_>, Ask<'_>, u32) -> Result<Items<Item>, NoMemor
     ) -> Result<Items<Entry>, NoMemory>
         requires lower { Gives self.now.level (F.pre self.now.below) (F.post self.now.below) }
         requires world { IsWorld world.now }
-        ensures { IfOk result (λ es. es ≡ spec.found world.now self.now.level left.now (spec.clauses world.now self.now.level rest.now) values.now term.now n) }
+        ensures { IfOk result (λ es.
+            es ≡ spec.found world.now self.now.level left.now
+            (spec.clauses world.now self.now.level rest.now) values.now term.now n) }
     {
-        let all = world.matches(self.alloc, left, term)?;
+        let first = u32::try_from(values.len()).unwrap_or(u32::MAX);
+        let all = world.matches(self.alloc, left, first, term)?;
         self.each_match(world, rest, values, n, all)
     }
 
@@ -169,19 +182,22 @@ impl<F: Fn(Global, u32, &World<'_>, Ask<'_>, u32) -> Result<Items<Item>, NoMemor
     ) -> Result<Items<Entry>, NoMemory>
         requires lower { Gives self.now.level (F.pre self.now.below) (F.post self.now.below) }
         requires world { IsWorld world.now }
-        ensures { IfOk result (λ es. es ≡ flat_map (spec.extended world.now self.now.level (spec.clauses world.now self.now.level rest.now) values.now n) all) }
+        ensures { IfOk result (λ es.
+            es ≡ flat_map
+            (spec.matched world.now self.now.level
+            (spec.clauses world.now self.now.level rest.now) values.now n) all) }
     {
         let mut out = Items::new(self.alloc);
         for bound in all.as_slice() {
-            let more = self.extended(world, rest, values, n, bound.as_slice())?;
+            let more = self.matched(world, rest, values, n, bound.as_slice())?;
             out.append(more)?;
         }
         Ok(out)
     }
 
     #[cycle(clauses)]
-    #[tactic(auto, using(crate::proofs::LevelLemmas::conditions))]
-    fn extended(
+    #[tactic(auto, using(crate::proofs::LevelLemmas::conditions), unfolding(elan_meaning::specs::Items::matched))]
+    fn matched(
         &self,
         world: &World<'_>,
         rest: &[Clause],
@@ -191,11 +207,11 @@ impl<F: Fn(Global, u32, &World<'_>, Ask<'_>, u32) -> Result<Items<Item>, NoMemor
     ) -> Result<Items<Entry>, NoMemory>
         requires lower { Gives self.now.level (F.pre self.now.below) (F.post self.now.below) }
         requires world { IsWorld world.now }
-        ensures { IfOk result (λ es. es ≡ spec.extended world.now self.now.level (spec.clauses world.now self.now.level rest.now) values.now n bound.now) }
+        ensures { IfOk result (λ es.
+            es ≡ spec.matched world.now self.now.level
+            (spec.clauses world.now self.now.level rest.now) values.now n bound.now) }
     {
-        let mut longer = Items::new(self.alloc);
-        copy_onto(self.alloc, &mut longer, values)?;
-        copy_onto(self.alloc, &mut longer, bound)?;
+        let longer = joined(self.alloc, values, bound)?;
         self.clauses(world, rest, longer.as_slice(), n)
     }
 
@@ -207,7 +223,8 @@ impl<F: Fn(Global, u32, &World<'_>, Ask<'_>, u32) -> Result<Items<Item>, NoMemor
     ) -> Result<Items<Item>, NoMemory>
         requires lower { Gives self.now.level (F.pre self.now.below) (F.post self.now.below) }
         requires world { IsWorld world.now }
-        ensures { IfOk result (λ items. items ≡ spec.finished world.now self.now.level rule.now entries) }
+        ensures { IfOk result (λ items.
+            items ≡ spec.finished world.now self.now.level rule.now entries) }
     {
         let mut out = Items::new(self.alloc);
         for entry in entries.as_slice() {
@@ -232,7 +249,9 @@ impl<F: Fn(Global, u32, &World<'_>, Ask<'_>, u32) -> Result<Items<Item>, NoMemor
     ) -> Result<Items<Item>, NoMemory>
         requires lower { Gives self.now.level (F.pre self.now.below) (F.post self.now.below) }
         requires world { IsWorld world.now }
-        ensures { IfOk result (λ items. items ≡ spec.finished world.now self.now.level rule.now (spec.clauses world.now self.now.level rule.now.clauses values.now n)) }
+        ensures { IfOk result (λ items.
+            items ≡ spec.finished world.now self.now.level rule.now
+            (spec.clauses world.now self.now.level rule.now.clauses values.now n)) }
     {
         let entries = self.clauses(world, rule.clauses.as_slice(), values, n)?;
         self.finished(world, rule, entries)

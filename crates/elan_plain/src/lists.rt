@@ -5,6 +5,7 @@ ghost use Rattle.elan_meaning.specs.declared.item.Entry.TheVariants.{At, Stop};
 ghost use Rattle.elan_meaning.specs.declared.item.Item.TheVariants.{Res, Mark};
 ghost use Rattle.elan_meaning.specs.Items as items_spec;
 ghost use Rattle.elan_meaning.specs.Meaning as spec;
+ghost use Rattle.elan_plain.specs.Engine.{first as spec_first};
 
 use elan_meaning::{Cause, Entry, Item};
 use elan_terms::{Pattern, PatternNode, Term, TermNode, copy, copy_onto};
@@ -39,12 +40,13 @@ fn copy_item(alloc: Global, item: &Item) -> Result<Item, NoMemory>
     }
 }
 
-pub(crate) fn first_or(alloc: Global, items: &[Item], other: Item) -> Result<Item, NoMemory>
-    ensures { IfOk result (λ i. i ≡ items_spec.first_or items.now other) }
+/// The first of these, if there is one.
+pub(crate) fn first(alloc: Global, items: &[Item]) -> Result<Option<Item>, NoMemory>
+    ensures { IfOk result (λ i. i ≡ spec_first items.now) }
 {
     match items {
-        [] => Ok(other),
-        [first, ..] => copy_item(alloc, first),
+        [] => Ok(None),
+        [first, ..] => Ok(Some(copy_item(alloc, first)?)),
     }
 }
 
@@ -93,6 +95,16 @@ pub(crate) fn stop(alloc: Global, cause: Cause) -> Result<Items<Entry>, NoMemory
     let mut out = Items::new(alloc);
     out.push(Entry::Stop(cause))?;
     Ok(out)
+}
+
+/// The terms of both lists.
+pub(crate) fn joined(alloc: Global, terms: &[Term], more: &[Term]) -> Result<Items<Term>, NoMemory>
+    ensures { IfOk result (λ ts. ts ≡ terms.now ++ more.now) }
+{
+    let mut both = Items::new(alloc);
+    copy_onto(alloc, &mut both, terms)?;
+    copy_onto(alloc, &mut both, more)?;
+    Ok(both)
 }
 
 /// A row alone.

@@ -2,14 +2,14 @@
 
 ghost use Rattle.std.specs.Prelude.{◌≡◌, ◌++◌, map, IfOk};
 ghost use Rattle.elan_meaning.specs.Items.{on_results, items_of};
+ghost use Rattle.elan_plain.specs.Closures.{meant};
 ghost use Rattle.elan_plain.specs.Engine.{Gives, IsWorld, under};
 ghost use Rattle.elan_plain.specs.Level as spec;
 
 use crate::level::MAX_DEPTH;
 use crate::lists::{before, mark, stays};
-use crate::{Ask, Level, World};
+use crate::{Ask, Closure, Level, World};
 use elan_meaning::{Cause, Entry, Item};
-use elan_program::Strategy;
 use elan_terms::{OpId, SortId, Term, TermNode, copy, copy_onto, is_deeper};
 use elan_text::NoMemory;
 use sqlite_items::Items;
@@ -21,12 +21,14 @@ impl<F: Fn(Global, u32, &World<'_>, Ask<'_>, u32) -> Result<Items<Item>, NoMemor
         &self,
         world: &World<'_>,
         sort: SortId,
-        strategy: &Strategy,
+        strategy: Closure<'_>,
         items: Items<Item>,
     ) -> Result<Items<Item>, NoMemory>
         requires lower { Gives self.now.level (F.pre self.now.below) (F.post self.now.below) }
         requires world { IsWorld world.now }
-        ensures { IfOk result (λ out. out ≡ on_results items ((under world.now self.now.level).positions sort strategy.now)) }
+        ensures { IfOk result (λ out.
+            out ≡ on_results items
+            ((under world.now self.now.level).positions sort (meant strategy.entry))) }
     {
         let mut out = Items::new(self.alloc);
         for item in items.as_slice() {
@@ -45,13 +47,14 @@ impl<F: Fn(Global, u32, &World<'_>, Ask<'_>, u32) -> Result<Items<Item>, NoMemor
         &self,
         world: &World<'_>,
         sort: SortId,
-        strategy: &Strategy,
+        strategy: Closure<'_>,
         term: &Term,
         n: u32,
     ) -> Result<Items<Item>, NoMemory>
         requires lower { Gives self.now.level (F.pre self.now.below) (F.post self.now.below) }
         requires world { IsWorld world.now }
-        ensures { IfOk result (λ items. items ≡ spec.at_node world.now self.now.level sort strategy.now term.now n) }
+        ensures { IfOk result (λ items.
+            items ≡ spec.at_node world.now self.now.level sort (meant strategy.entry) term.now n) }
     {
         if n == 0 {
             return mark(self.alloc, Cause::Steps);
@@ -68,13 +71,14 @@ impl<F: Fn(Global, u32, &World<'_>, Ask<'_>, u32) -> Result<Items<Item>, NoMemor
         &self,
         world: &World<'_>,
         sort: SortId,
-        strategy: &Strategy,
+        strategy: Closure<'_>,
         term: &Term,
         n: u32,
     ) -> Result<Items<Item>, NoMemory>
         requires lower { Gives self.now.level (F.pre self.now.below) (F.post self.now.below) }
         requires world { IsWorld world.now }
-        ensures { IfOk result (λ items. items ≡ spec.placed world.now self.now.level sort strategy.now term.now n) }
+        ensures { IfOk result (λ items.
+            items ≡ spec.placed world.now self.now.level sort (meant strategy.entry) term.now n) }
     {
         if is_deeper(term, MAX_DEPTH) {
             return mark(self.alloc, Cause::Depth);
@@ -90,14 +94,16 @@ impl<F: Fn(Global, u32, &World<'_>, Ask<'_>, u32) -> Result<Items<Item>, NoMemor
         &self,
         world: &World<'_>,
         sort: SortId,
-        strategy: &Strategy,
+        strategy: Closure<'_>,
         op: OpId,
         terms: &[Term],
         n: u32,
     ) -> Result<Items<Item>, NoMemory>
         requires lower { Gives self.now.level (F.pre self.now.below) (F.post self.now.below) }
         requires world { IsWorld world.now }
-        ensures { IfOk result (λ items. items ≡ spec.placed_node world.now self.now.level sort strategy.now op terms.now n) }
+        ensures { IfOk result (λ items.
+            items ≡ spec.placed_node world.now self.now.level sort
+            (meant strategy.entry) op terms.now n) }
     {
         let mut args = Items::new(self.alloc);
         copy_onto(self.alloc, &mut args, terms)?;
@@ -109,13 +115,15 @@ impl<F: Fn(Global, u32, &World<'_>, Ask<'_>, u32) -> Result<Items<Item>, NoMemor
         &self,
         world: &World<'_>,
         sort: SortId,
-        strategy: &Strategy,
+        strategy: Closure<'_>,
         op: OpId,
         rows: Items<Entry>,
     ) -> Result<Items<Item>, NoMemory>
         requires lower { Gives self.now.level (F.pre self.now.below) (F.post self.now.below) }
         requires world { IsWorld world.now }
-        ensures { IfOk result (λ items. items ≡ items_of rows (spec.placed_node world.now self.now.level sort strategy.now op)) }
+        ensures { IfOk result (λ items.
+            items ≡ items_of rows
+            (spec.placed_node world.now self.now.level sort (meant strategy.entry) op)) }
     {
         let mut out = Items::new(self.alloc);
         for row in rows.as_slice() {
@@ -136,13 +144,15 @@ impl<F: Fn(Global, u32, &World<'_>, Ask<'_>, u32) -> Result<Items<Item>, NoMemor
         &self,
         world: &World<'_>,
         sort: SortId,
-        strategy: &Strategy,
+        strategy: Closure<'_>,
         term: &Term,
         n: u32,
     ) -> Result<Items<Item>, NoMemory>
         requires lower { Gives self.now.level (F.pre self.now.below) (F.post self.now.below) }
         requires world { IsWorld world.now }
-        ensures { IfOk result (λ items. items ≡ spec.positions world.now self.now.level sort strategy.now term.now n) }
+        ensures { IfOk result (λ items.
+            items ≡ spec.positions world.now self.now.level sort
+            (meant strategy.entry) term.now n) }
     {
         match &term.node {
             TermNode::Int(_) => self.placed(world, sort, strategy, term, n),
@@ -154,18 +164,21 @@ impl<F: Fn(Global, u32, &World<'_>, Ask<'_>, u32) -> Result<Items<Item>, NoMemor
     }
 
     #[cycle(positions)]
-    #[tactic(auto, using(crate::proofs::LevelLemmas::places), unfolding(elan_meaning::specs::Meaning::then_rows))]
+    #[tactic(auto, using(crate::proofs::LevelLemmas::places), unfolding(elan_meaning::specs::Items::then_before))]
     fn rows(
         &self,
         world: &World<'_>,
         sort: SortId,
-        strategy: &Strategy,
+        strategy: Closure<'_>,
         terms: &[Term],
         n: u32,
     ) -> Result<Items<Entry>, NoMemory>
         requires lower { Gives self.now.level (F.pre self.now.below) (F.post self.now.below) }
         requires world { IsWorld world.now }
-        ensures { IfOk result (λ rows. rows ≡ spec.rows world.now self.now.level (map (spec.positions world.now self.now.level sort strategy.now) terms.now) n) }
+        ensures { IfOk result (λ rows.
+            rows ≡ spec.rows world.now self.now.level
+            (map (spec.positions world.now self.now.level sort
+            (meant strategy.entry)) terms.now) n) }
     {
         let mut out = Items::new(self.alloc);
         match terms {

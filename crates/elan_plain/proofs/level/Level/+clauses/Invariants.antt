@@ -25,8 +25,8 @@ decreases-found g l = 8 * length l.rest.now + 4
 abbrev pub decreases-each_match : goal.decreases-each_match
 decreases-each_match g l = 8 * length l.rest.now + 3
 
-abbrev pub decreases-extended : goal.decreases-extended
-decreases-extended g l = 8 * length l.rest.now + 1
+abbrev pub decreases-matched : goal.decreases-matched
+decreases-matched g l = 8 * length l.rest.now + 1
 
 -- the entries so far and those of the results that are left make all
 abbrev pub invariant-each_found-loop-item : goal.invariant-each_found-loop-item
@@ -37,5 +37,5 @@ invariant-each_found-loop-item g l =
 -- the entries so far and those of the matches that are left make all
 abbrev pub invariant-each_match-loop-bound : goal.invariant-each_match-loop-bound
 invariant-each_match-loop-bound g l =
-    let k : _ = spec.extended l.world l.self.level (spec.clauses l.world l.self.level l.rest) l.values l.n in
+    let k : _ = spec.matched l.world l.self.level (spec.clauses l.world l.self.level l.rest) l.values l.n in
     l.out ++ flat_map k (drop l.bound-index l.bound-items) ≡ flat_map k l.bound-items

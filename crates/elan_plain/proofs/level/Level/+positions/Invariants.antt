@@ -1,8 +1,7 @@
 use Rattle.std.proofs.Common.{◌≡◌, ◌++◌, map, drop}
 use Rattle.elan_terms.specs.Weight.{weight, weights}
-use Rattle.elan_meaning.specs.Items.{rows_of}
-use Rattle.elan_meaning.specs.Meaning as meaning
-use Rattle.elan_plain.specs.Engine.{under}
+use Rattle.elan_meaning.specs.Items.{rows_of, then_before}
+use Rattle.elan_plain.specs.Closures.{meant}
 use Rattle.elan_plain.specs.Level as spec
 use Rattle.elan_plain.proofs.level.Level.+positions.Given as goal
 
@@ -15,5 +14,5 @@ decreases-rows g l = weights l.terms.now
 -- the rows so far and those of the results that are left make all
 abbrev pub invariant-rows-loop-item : goal.invariant-rows-loop-item
 invariant-rows-loop-item g l =
-    let k : _ = meaning.then_rows l.world.program.now (under l.world l.self.level) (spec.rows l.world l.self.level (map (spec.positions l.world l.self.level l.sort l.strategy) l.rest)) in
+    let k : _ = then_before (spec.rows l.world l.self.level (map (spec.positions l.world l.self.level l.sort (meant l.strategy)) l.rest)) in
     l.out ++ rows_of (drop l.item-index l.item-items) k ≡ rows_of l.item-items k

@@ -1,10 +1,11 @@
 use Rattle.std.proofs.Common.{◌≡◌, ◌++◌, drop}
 use Rattle.elan_meaning.specs.Items.{on_results}
+use Rattle.elan_plain.specs.Closures.{meant}
 use Rattle.elan_plain.specs.Engine.{under}
 use Rattle.elan_plain.proofs.level.Level.place_each.Given as goal
 
 -- the list so far and that of the items that are left make all
 abbrev pub invariant-loop-item : goal.invariant-loop-item
 invariant-loop-item g l =
-    l.out ++ on_results (drop l.item-index l.item-items) ((under l.world l.self.level).positions l.sort l.strategy)
-    ≡ on_results l.item-items ((under l.world l.self.level).positions l.sort l.strategy)
+    l.out ++ on_results (drop l.item-index l.item-items) ((under l.world l.self.level).positions l.sort (meant l.strategy))
+    ≡ on_results l.item-items ((under l.world l.self.level).positions l.sort (meant l.strategy))

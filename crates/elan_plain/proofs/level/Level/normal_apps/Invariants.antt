@@ -1,0 +1,10 @@
+use Rattle.std.proofs.Common.{◌≡◌, ◌++◌, drop}
+use Rattle.elan_meaning.specs.Items.{items_of}
+use Rattle.elan_plain.specs.Level as spec
+use Rattle.elan_plain.proofs.level.Level.normal_apps.Given as goal
+
+-- the list so far and that of the rows that are left make all
+abbrev pub invariant-loop-row : goal.invariant-loop-row
+invariant-loop-row g l =
+    l.out ++ items_of (drop l.row-index l.row-items) (spec.normal_app l.world l.self.level l.op)
+    ≡ items_of l.row-items (spec.normal_app l.world l.self.level l.op)

@@ -2,7 +2,7 @@
 
 ghost use Rattle.std.specs.Prelude.{◌≡◌, IfOk};
 
-use elan_syntax::{LplOutline, ModuleOutline, OpDecl, RuleOutline, Section, Vars};
+use elan_syntax::{Definition, LplOutline, ModuleOutline, OpDecl, RuleOutline, Section, Vars};
 use elan_text::NoMemory;
 use sqlite_items::Items;
 use std::alloc::Global;
@@ -68,7 +68,7 @@ fn copy_section(alloc: Global, section: &Section) -> Result<Section, NoMemory>
         }),
         Section::Strategies { sort, definitions } => Ok(Section::Strategies {
             sort: *sort,
-            definitions: Items::from_slice(alloc, definitions.as_slice())?,
+            definitions: copy_definitions(alloc, definitions.as_slice())?,
         }),
     }
 }
@@ -141,6 +141,28 @@ fn copy_rule(alloc: Global, rule: &RuleOutline) -> Result<RuleOutline, NoMemory>
         right: rule.right,
         clauses,
     })
+}
+
+/// A copy of definitions of strategies.
+fn copy_definitions(
+    alloc: Global,
+    definitions: &[Definition],
+) -> Result<Items<Definition>, NoMemory>
+    ensures { IfOk result (λ copy. copy ≡ definitions.now) }
+{
+    let mut copy = Items::new(alloc);
+    let mut left = definitions;
+    'items: while let [first, rest @ ..] = left {
+        let parameters = Items::from_slice(alloc, first.parameters.as_slice())?;
+        copy.push(Definition {
+            at: first.at,
+            name: first.name,
+            parameters,
+            by: first.by,
+        })?;
+        left = rest;
+    }
+    Ok(copy)
 }
 
 /// A copy of what an `LPL` text says.

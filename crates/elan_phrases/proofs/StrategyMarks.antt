@@ -3,17 +3,17 @@ use Rattle.std.proofs.Common.{◌≡◌, ℕ, suc, ◌<◌, Bool, true, cond, Li
 use Rattle.std.specs.Prelude.{◌↔◌, count_by}
 use Rattle.std.proofs.lemmas.List.Sums.{sum_by-cons}
 use Rattle.elan_forms.specs.Whole.{Possible, EndsWith, IsFirstMark}
-use Rattle.elan_forms.specs.Form.{◌>>=◌, counted}
-use Rattle.elan_forms.proofs.Marks.{Counts, counts_less, counts_counted, counts_then, counts_behind, counts_either, counts_loop, counts_nested, marks_are, first_mark}
+use Rattle.elan_forms.specs.Form.{◌>>=◌, counted, pure}
+use Rattle.elan_forms.proofs.Marks.{Counts, counts_less, counts_silent, counts_counted, counts_then, counts_behind, counts_either, counts_loop, counts_nested, marks_are, first_mark}
 use Rattle.elan_phrases.specs.declared.symbol.Symbol.{Symbol}
-use Rattle.elan_phrases.specs.declared.symbol.Symbol.TheVariants.{Comma, Semicolon, LeftRound, RightRound, Star, Dk, One, Dc, Repeat, Normalise, Name}
-use Rattle.elan_phrases.specs.Symbols.{Seen, one, a, names, labels, plain_steps, choices, rounds}
+use Rattle.elan_phrases.specs.declared.symbol.Symbol.TheVariants.{Comma, Semicolon, LeftRound, RightRound, Star, Id, Dk, One, Dc, Repeat, Iterate, Normalise, Name}
+use Rattle.elan_phrases.specs.Symbols.{Seen, one, a, names, labels, plain_steps, choices, round_signs}
 use Rattle.elan_phrases.specs.Beginnings.{begins_step}
 use Rattle.elan_phrases.specs.SortExpressions.{Limited}
-use Rattle.elan_phrases.specs.Strategies.{more_arms, arms, all_of, inside, alternatives, choice, round, normal, step, more_steps, strategy_body, strategy}
+use Rattle.elan_phrases.specs.Strategies.{more_arms, arms, some_arms, named, all_of, inside, alternatives, choice, repeated, iterated, normal, step, more_steps, strategy_body, strategy}
 use Rattle.elan_phrases.proofs.SymbolSets.{same_is}
 use Rattle.elan_phrases.proofs.ExactTokens.{sample}
-use Rattle.elan_phrases.proofs.ExactStrategies.{from_inside, from_all, from_choice, from_round, strategy_grows, strategy_lessens, strategy_word}
+use Rattle.elan_phrases.proofs.ExactStrategies.{from_named, from_inside, from_all, from_choice, from_repeated, from_iterated, strategy_grows, strategy_lessens, strategy_word}
 
 -- each token counts
 abbrev each : Seen → Bool
@@ -56,6 +56,13 @@ module _ (b : ℕ) (h : Counts each b strategy) where
   after_token p s S e k = counts_less each (suc b) (suc (suc b)) _ (omega arith)
       (counts_behind each (suc b) (a p) (sample s) S e (λ t x. refl) k)
 
+  some_arms_counts : Counts each (suc b) (some_arms strategy)
+  some_arms_counts = counts_either each (suc b) (arms strategy) (λ l. pure l) arms_counts (counts_silent each (suc b))
+
+  named_counts : Counts each (suc b) (named strategy)
+  unfolding named labels names
+  named_counts = after_token labels Name (some_arms strategy) refl some_arms_counts
+
   all_of_counts : Counts each (suc b) (all_of strategy)
   unfolding all_of
   all_of_counts = after_token (one Dk) Dk (arms strategy) (same_is Dk) arms_counts
@@ -69,24 +76,31 @@ module _ (b : ℕ) (h : Counts each b strategy) where
   unfolding choice choices
   choice_counts = after_token choices Dc (alternatives strategy) refl alternatives_counts
 
-  round_counts : Counts each (suc b) (round strategy)
-  unfolding round rounds
-  round_counts = after_token rounds Repeat _ refl (after_token (one Star) Star (inside strategy) (same_is Star)
-      inside_counts)
+  repeated_counts : Counts each (suc b) (repeated strategy)
+  unfolding repeated
+  repeated_counts = after_token (one Repeat) Repeat _ (same_is Repeat) (after_token (one Star) Star (inside strategy)
+      (same_is Star) inside_counts)
+
+  iterated_counts : Counts each (suc b) (iterated strategy)
+  unfolding iterated round_signs
+  iterated_counts = after_token (one Iterate) Iterate _ (same_is Iterate) (after_token round_signs Star (inside strategy)
+      refl inside_counts)
 
   normal_counts : Counts each (suc b) (normal strategy)
   unfolding normal
   normal_counts = after_token (one Normalise) Normalise (inside strategy) (same_is Normalise) inside_counts
 
   step_counts : Counts each (suc b) (step strategy)
-  unfolding step plain_steps labels names
+  unfolding step plain_steps
   step_counts =
-      counts_either each (suc b) (counted (a plain_steps)) (from_inside strategy)
-      (counts_counted each (suc b) (a plain_steps) (sample Name) refl (λ t e. refl))
+      counts_either each (suc b) (counted (a plain_steps)) (from_named strategy)
+      (counts_counted each (suc b) (a plain_steps) (sample Id) refl (λ t e. refl))
+      (counts_either each (suc b) (named strategy) (from_inside strategy) named_counts
       (counts_either each (suc b) (inside strategy) (from_all strategy) inside_counts
       (counts_either each (suc b) (all_of strategy) (from_choice strategy) all_of_counts
-      (counts_either each (suc b) (choice strategy) (from_round strategy) choice_counts
-      (counts_either each (suc b) (round strategy) (normal strategy) round_counts normal_counts))))
+      (counts_either each (suc b) (choice strategy) (from_repeated strategy) choice_counts
+      (counts_either each (suc b) (repeated strategy) (from_iterated strategy) repeated_counts
+      (counts_either each (suc b) (iterated strategy) (normal strategy) iterated_counts normal_counts))))))
 
   more_steps_counts : Counts each (suc b) (more_steps strategy)
   unfolding more_steps

@@ -4,7 +4,7 @@ use Rattle.std.specs.Prelude.{not}
 use denote.Enum.Bare.{same_true, true_same}
 use Rattle.elan_forms.proofs.Takes.{Separate, Within}
 use Rattle.elan_phrases.specs.declared.symbol.Symbol.{Symbol}
-use Rattle.elan_phrases.specs.declared.symbol.Symbol.TheVariants.{Module, Import, Sort, Operators, Rules, Strategies, For, Global, Local, End, Where, If, Lpl, Number, Arrow, Becomes, Comma, Semicolon, Colon, LeftRound, RightRound, LeftSquare, RightSquare, Hole, Star, Sign, Id, Fail, Dk, Dc, First, Repeat, Iterate, Normalise, One, Implicit, Pri, AssocLeft, AssocRight, Ac, Description, Query, Of, Result, Start, With, Name}
+use Rattle.elan_phrases.specs.declared.symbol.Symbol.TheVariants.{Module, Import, Sort, Operators, Rules, Strategies, For, Global, Local, End, Where, If, Lpl, Number, Arrow, Becomes, Comma, Semicolon, Colon, LeftRound, RightRound, LeftSquare, RightSquare, Hole, Star, Plus, Sign, Id, Fail, Dk, Dc, First, Repeat, Iterate, Normalise, One, Implicit, Pri, AssocLeft, AssocRight, Ac, Description, Query, Of, Result, Start, With, Name}
 use Rattle.elan_phrases.specs.contracts.symbol.Symbol.{the_type}
 use Rattle.elan_phrases.specs.Symbols.{same_symbol}
 
@@ -13,7 +13,7 @@ abbrev pub all_symbols : List Symbol
 all_symbols =
     Module ∷ Import ∷ Sort ∷ Operators ∷ Rules ∷ Strategies ∷ For ∷ Global ∷ Local ∷ End ∷ Where ∷ If ∷ Lpl ∷ Number
     ∷ Arrow ∷ Becomes ∷ Comma ∷ Semicolon ∷ Colon ∷ LeftRound ∷ RightRound ∷ LeftSquare ∷ RightSquare ∷ Hole ∷ Star
-    ∷ Sign ∷ Id ∷ Fail ∷ Dk ∷ Dc ∷ First ∷ Repeat ∷ Iterate ∷ Normalise ∷ One ∷ Implicit ∷ Pri ∷ AssocLeft
+    ∷ Plus ∷ Sign ∷ Id ∷ Fail ∷ Dk ∷ Dc ∷ First ∷ Repeat ∷ Iterate ∷ Normalise ∷ One ∷ Implicit ∷ Pri ∷ AssocLeft
     ∷ AssocRight ∷ Ac ∷ Description ∷ Query ∷ Of ∷ Result ∷ Start ∷ With
     ∷ Name ∷ []
 

@@ -1,14 +1,15 @@
 -- With which symbols the parts of a text begin.
 use Rattle.std.specs.Prelude.{Bool, ◌||◌}
 use Rattle.elan_phrases.specs.declared.symbol.Symbol.{Symbol}
-use Rattle.elan_phrases.specs.declared.symbol.Symbol.TheVariants.{Import, Sort, Operators, Rules, Strategies, Where, If, Dk, Normalise, Implicit, Comma, LeftRound, LeftSquare}
-use Rattle.elan_phrases.specs.Symbols.{one, names, plain_steps, choices, rounds, visibilities, spelled}
+use Rattle.elan_phrases.specs.declared.symbol.Symbol.TheVariants.{Import, Sort, Operators, Rules, Strategies, Where, If, Dk, Repeat, Iterate, Normalise, Implicit, Comma, LeftRound, LeftSquare}
+use Rattle.elan_phrases.specs.Symbols.{one, names, labels, plain_steps, choices, visibilities, spelled}
 
 -- a step of a strategy
 abbrev pub begins_step : Symbol → Bool
 begins_step s =
     plain_steps s
-    || (one LeftRound s || (one Dk s || (choices s || (rounds s || one Normalise s))))
+    || (labels s
+    || (one LeftRound s || (one Dk s || (choices s || (one Repeat s || (one Iterate s || one Normalise s))))))
 
 -- another name of a list, which may have a comma before it
 abbrev pub begins_another_name : Symbol → Bool

@@ -1,9 +1,9 @@
 -- Strategies, whose tokens are counted.
 use Rattle.std.specs.Prelude.{ℕ, Option}
-use Rattle.elan_forms.specs.Form.{◌>>=◌, counted, either, optional, loop, nested, spanned}
+use Rattle.elan_forms.specs.Form.{◌>>=◌, counted, pure, either, optional, loop, nested, spanned}
 use Rattle.elan_phrases.specs.declared.span.Span.{Span}
-use Rattle.elan_phrases.specs.declared.symbol.Symbol.TheVariants.{Comma, Semicolon, LeftRound, RightRound, Star, Dk, One, Normalise}
-use Rattle.elan_phrases.specs.Symbols.{one, a, plain_steps, choices, rounds}
+use Rattle.elan_phrases.specs.declared.symbol.Symbol.TheVariants.{Comma, Semicolon, LeftRound, RightRound, Star, Dk, One, Repeat, Iterate, Normalise}
+use Rattle.elan_phrases.specs.Symbols.{one, a, labels, plain_steps, choices, round_signs}
 use Rattle.elan_phrases.specs.Beginnings.{begins_step}
 use Rattle.elan_phrases.specs.Tokens.{Rule, span}
 use Rattle.elan_phrases.specs.SortExpressions.{Limited}
@@ -27,6 +27,14 @@ inside strategy left = do
   left ← strategy left
   counted (a (one RightRound)) left
 
+-- [ "(" strategy { "," strategy } ")" ]
+abbrev pub some_arms : Limited → Limited
+some_arms strategy left = either (arms strategy left) (pure left)
+
+-- LABEL [ "(" strategy { "," strategy } ")" ]
+unfoldable pub named : Limited → Limited
+named strategy left = counted (a labels) left >>= some_arms strategy
+
 -- "dk" "(" strategy { "," strategy } ")"
 unfoldable pub all_of : Limited → Limited
 all_of strategy left = counted (a (one Dk)) left >>= arms strategy
@@ -39,11 +47,18 @@ alternatives strategy left = either (counted (a (one One)) left >>= arms strateg
 unfoldable pub choice : Limited → Limited
 choice strategy left = counted (a choices) left >>= alternatives strategy
 
--- ( "repeat" | "iterate" ) "*" "(" strategy ")"
-unfoldable pub round : Limited → Limited
-round strategy left = do
-  left ← counted (a rounds) left
+-- "repeat" "*" "(" strategy ")"
+unfoldable pub repeated : Limited → Limited
+repeated strategy left = do
+  left ← counted (a (one Repeat)) left
   left ← counted (a (one Star)) left
+  inside strategy left
+
+-- "iterate" ( "*" | "+" ) "(" strategy ")"
+unfoldable pub iterated : Limited → Limited
+iterated strategy left = do
+  left ← counted (a (one Iterate)) left
+  left ← counted (a round_signs) left
   inside strategy left
 
 -- "normalise" "(" strategy ")"
@@ -51,17 +66,21 @@ unfoldable pub normal : Limited → Limited
 normal strategy left = counted (a (one Normalise)) left >>= inside strategy
 
 -- step = "id" | "fail" | LABEL | "(" strategy ")"
+--      | LABEL "(" strategy { "," strategy } ")"
 --      | ( "dk" | "dc" | "first" ) "(" strategy { "," strategy } ")"
 --      | ( "dc" | "first" ) "one" "(" strategy { "," strategy } ")"
---      | ( "repeat" | "iterate" ) "*" "(" strategy ")"
+--      | "repeat" "*" "(" strategy ")"
+--      | "iterate" ( "*" | "+" ) "(" strategy ")"
 --      | "normalise" "(" strategy ")"
 unfoldable pub step : Limited → Limited
 step strategy left =
     either (counted (a plain_steps) left)
+    (either (named strategy left)
     (either (inside strategy left)
     (either (all_of strategy left)
     (either (choice strategy left)
-    (either (round strategy left) (normal strategy left)))))
+    (either (repeated strategy left)
+    (either (iterated strategy left) (normal strategy left)))))))
 
 -- { ";" step }
 unfoldable pub more_steps : Limited → Limited

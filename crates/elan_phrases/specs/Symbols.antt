@@ -10,7 +10,7 @@ use Rattle.elan_lexer.specs.Text.{token_text}
 use Rattle.elan_text.specs.declared.name.Name.{Name as TextName}
 use Rattle.elan_lexer.specs.declared.token.Kind.TheVariants.{Word as AWord, Number as ANumber, Sign as ASign}
 use Rattle.elan_phrases.specs.declared.symbol.Symbol.{Symbol}
-use Rattle.elan_phrases.specs.declared.symbol.Symbol.TheVariants.{Module, Import, Sort, Operators, Rules, Strategies, For, Global, Local, End, Where, If, Lpl, Number, Arrow, Becomes, Comma, Semicolon, Colon, LeftRound, RightRound, LeftSquare, RightSquare, Hole, Star, Sign, Id, Fail, Dk, Dc, First, Repeat, Iterate, Normalise, One, Implicit, Pri, AssocLeft, AssocRight, Ac, Description, Query, Of, Result, Start, With, Name}
+use Rattle.elan_phrases.specs.declared.symbol.Symbol.TheVariants.{Module, Import, Sort, Operators, Rules, Strategies, For, Global, Local, End, Where, If, Lpl, Number, Arrow, Becomes, Comma, Semicolon, Colon, LeftRound, RightRound, LeftSquare, RightSquare, Hole, Star, Plus, Sign, Id, Fail, Dk, Dc, First, Repeat, Iterate, Normalise, One, Implicit, Pri, AssocLeft, AssocRight, Ac, Description, Query, Of, Result, Start, With, Name}
 use Rattle.elan_phrases.specs.declared.symbol.Importer.{Importer}
 use Rattle.elan_phrases.specs.declared.symbol.Importer.TheVariants.{AModule, AnLplText}
 use Rattle.elan_phrases.specs.contracts.symbol.Symbol.{the_type}
@@ -49,7 +49,7 @@ unfoldable pub named_signs : List (List ℕ × Symbol)
 named_signs =
     (codes "=>", Arrow) ∷ (codes ":=", Becomes) ∷ (codes ",", Comma) ∷ (codes ";", Semicolon) ∷ (codes ":", Colon)
     ∷ (codes "(", LeftRound) ∷ (codes ")", RightRound) ∷ (codes "[", LeftSquare) ∷ (codes "]", RightSquare)
-    ∷ (codes "@", Hole) ∷ (codes "*", Star) ∷ []
+    ∷ (codes "@", Hole) ∷ (codes "*", Star) ∷ (codes "+", Plus) ∷ []
 
 -- the symbol that was found, or else the other
 abbrev pub found_or : Option Symbol → Symbol → Symbol
@@ -110,6 +110,7 @@ names LeftSquare = false
 names RightSquare = false
 names Hole = false
 names Star = false
+names Plus = false
 names Sign = false
 names _ = true
 
@@ -125,11 +126,11 @@ labels Iterate = false
 labels Normalise = false
 labels s = names s
 
--- a strategy of one token
+-- `id` or `fail`
 unfoldable pub plain_steps : Symbol → Bool
 plain_steps Id = true
 plain_steps Fail = true
-plain_steps s = labels s
+plain_steps _ = false
 
 -- `dc` or `first`
 unfoldable pub choices : Symbol → Bool
@@ -137,11 +138,11 @@ choices Dc = true
 choices First = true
 choices _ = false
 
--- `repeat` or `iterate`
-unfoldable pub rounds : Symbol → Bool
-rounds Repeat = true
-rounds Iterate = true
-rounds _ = false
+-- `*` or `+`
+unfoldable pub round_signs : Symbol → Bool
+round_signs Star = true
+round_signs Plus = true
+round_signs _ = false
 
 -- a name that does not end the imports of an `LPL` text
 unfoldable pub imported : Symbol → Bool
@@ -174,6 +175,7 @@ spelled LeftSquare = true
 spelled RightSquare = true
 spelled Hole = true
 spelled Star = true
+spelled Plus = true
 spelled Sign = true
 spelled s = names s
 
@@ -191,6 +193,7 @@ in_text LeftSquare = true
 in_text RightSquare = true
 in_text Hole = true
 in_text Star = true
+in_text Plus = true
 in_text Sign = true
 in_text s = names s
 

@@ -14,7 +14,8 @@ pub fn long_sort_expressions()
 
 /// The first token that is one too many for a sort expression is its 65th name.
 pub fn sixty_fifth_name()
-    ensures { (n : ℕ) (front : List Seen) (token : Seen) → IsFirstMark ((sort most_sort_names).marks n) front token
+    ensures { (n : ℕ) (front : List Seen) (token : Seen)
+        → IsFirstMark ((sort most_sort_names).marks n) front token
         ↔ ((a names token ≡ true) × (count_by (a names) front ≡ 64)
         × Possible ((sort most_sort_names).words n) (front ++ token ∷ [])) }
 {}
@@ -27,6 +28,7 @@ pub fn long_strategies()
 
 /// The first token that is one too many for a strategy is its 257th token.
 pub fn two_hundred_fifty_seventh_token()
-    ensures { (n : ℕ) (front : List Seen) (token : Seen) → IsFirstMark ((strategy most_strategy_tokens).marks n) front token
+    ensures { (n : ℕ) (front : List Seen) (token : Seen)
+        → IsFirstMark ((strategy most_strategy_tokens).marks n) front token
         ↔ ((length front ≡ 256) × Possible ((strategy most_strategy_tokens).words n) (front ++ token ∷ [])) }
 {}

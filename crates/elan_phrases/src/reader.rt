@@ -12,7 +12,7 @@ use crate::halt::Halt;
 use crate::span::Span;
 use crate::symbol::{
     Importer, Lexeme, Symbol, associativities, choices, importable, in_text, labels, names,
-    plain_steps, rounds, same_symbol, spelled, visibilities,
+    plain_steps, round_signs, same_symbol, spelled, visibilities,
 };
 use crate::worth::{is_among, is_named, is_small};
 use elan_forms::Why;
@@ -130,7 +130,7 @@ impl<'a> Reader<'a> {
         }
     }
 
-    /// Whether the next token is a strategy of its own.
+    /// Whether the next token is `id` or `fail`.
     pub fn sees_plain_step(&self) -> bool
         ensures { result ≡ sees (a spec.plain_steps) self.now }
     {
@@ -150,12 +150,12 @@ impl<'a> Reader<'a> {
         }
     }
 
-    /// Whether the next token is `repeat` or `iterate`.
-    pub fn sees_round(&self) -> bool
-        ensures { result ≡ sees (a spec.rounds) self.now }
+    /// Whether the next token is `*` or `+`.
+    pub fn sees_round_sign(&self) -> bool
+        ensures { result ≡ sees (a spec.round_signs) self.now }
     {
         match self.rest {
-            [next, ..] => rounds(next.symbol),
+            [next, ..] => round_signs(next.symbol),
             [] => false,
         }
     }
@@ -167,10 +167,12 @@ impl<'a> Reader<'a> {
         match self.rest {
             [next, ..] => {
                 plain_steps(next.symbol)
+                    || labels(next.symbol)
                     || same_symbol(next.symbol, Symbol::LeftRound)
                     || same_symbol(next.symbol, Symbol::Dk)
                     || choices(next.symbol)
-                    || rounds(next.symbol)
+                    || same_symbol(next.symbol, Symbol::Repeat)
+                    || same_symbol(next.symbol, Symbol::Iterate)
                     || same_symbol(next.symbol, Symbol::Normalise)
             }
             [] => false,
@@ -330,7 +332,8 @@ impl<'a> Reader<'a> {
 
     /// Takes the next token if it fits, where so many are left, and answers how many are left then.
     pub fn counted(&mut self, fits: bool, left: u32) -> Result<u32, Halt>
-        ensures read { (p : Seen → Bool) → fits ≡ sees p self.old → Reads (counted p left) self.old result self.new }
+        ensures read { (p : Seen → Bool) → fits ≡ sees p self.old
+            → Reads (counted p left) self.old result self.new }
         ensures fewer { IfOk result (λ now. now < left) }
     {
         match self.rest {
@@ -360,7 +363,8 @@ impl<'a> Reader<'a> {
 
     /// Takes the next token if it fits.
     pub fn skip(&mut self, fits: bool) -> Result<(), Halt>
-        ensures read { (p : Seen → Bool) → fits ≡ sees p self.old → Reads (grammar.taken p) self.old result self.new }
+        ensures read { (p : Seen → Bool) → fits ≡ sees p self.old
+            → Reads (grammar.taken p) self.old result self.new }
         ensures shorter { IfOk result (λ _. length self.new.rest < length self.old.rest) }
     {
         match self.rest {
@@ -387,7 +391,8 @@ impl<'a> Reader<'a> {
 
     /// Takes the next token if it fits, and answers its number.
     pub fn number(&mut self, fits: bool) -> Result<u32, Halt>
-        ensures read { (p : Seen → Bool) → fits ≡ sees p self.old → Reads (grammar.number_of p) self.old result self.new }
+        ensures read { (p : Seen → Bool) → fits ≡ sees p self.old
+            → Reads (grammar.number_of p) self.old result self.new }
         ensures shorter { IfOk result (λ _. length self.new.rest < length self.old.rest) }
     {
         match self.rest {
@@ -406,7 +411,8 @@ impl<'a> Reader<'a> {
 
     /// Takes the next token if it fits, as a span.
     pub fn span(&mut self, fits: bool) -> Result<Span, Halt>
-        ensures read { (p : Seen → Bool) → fits ≡ sees p self.old → Reads (grammar.span_of p) self.old result self.new }
+        ensures read { (p : Seen → Bool) → fits ≡ sees p self.old
+            → Reads (grammar.span_of p) self.old result self.new }
         ensures shorter { IfOk result (λ _. length self.new.rest < length self.old.rest) }
     {
         match self.rest {

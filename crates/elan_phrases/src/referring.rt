@@ -19,7 +19,8 @@ pub fn references(
     importer: Importer,
     before: Items<Span>,
 ) -> Result<Items<Span>, Halt>
-    ensures read { Reads (grammar.references (importable importer) before) reader.old result reader.new }
+    ensures read { Reads
+        (grammar.references (importable importer) before) reader.old result reader.new }
     ensures shorter { IfOk result (λ _. length reader.new.rest < length reader.old.rest) }
 {
     let first = reference(reader, importer)?;
@@ -34,7 +35,8 @@ fn more_references(
     importer: Importer,
     before: Items<Span>,
 ) -> Result<Items<Span>, Halt>
-    ensures read { Reads (grammar.more_references (importable importer) before) reader.old result reader.new }
+    ensures read { Reads
+        (grammar.more_references (importable importer) before) reader.old result reader.new }
     ensures no_longer { IfOk result (λ _. length reader.new.rest ≤ length reader.old.rest) }
 {
     let mut found = before;

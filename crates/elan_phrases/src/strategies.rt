@@ -68,23 +68,43 @@ fn more_steps(reader: &mut Reader<'_>, left: u32) -> Result<u32, Halt>
 
 /// Takes one step.
 #[cycle(strategy)]
-#[tactic(auto, unfolding(crate::specs::Strategies::step, crate::specs::Strategies::inside, crate::specs::Strategies::all_of, crate::specs::Strategies::choice, crate::specs::Strategies::round))]
+#[tactic(auto, unfolding(crate::specs::Strategies::step, crate::specs::Strategies::named, crate::specs::Strategies::inside, crate::specs::Strategies::all_of, crate::specs::Strategies::choice, crate::specs::Strategies::repeated, crate::specs::Strategies::iterated))]
 fn step(reader: &mut Reader<'_>, left: u32) -> Result<u32, Halt>
     ensures read { Reads (grammar.step grammar.strategy left) reader.old result reader.new }
     ensures fewer { IfOk result (λ now. now < left) }
 {
     if reader.sees_plain_step() {
         reader.counted(true, left)
+    } else if reader.sees_label() {
+        named(reader, left)
     } else if reader.sees(Symbol::LeftRound) {
         inside(reader, left)
     } else if reader.sees(Symbol::Dk) {
         all_of(reader, left)
     } else if reader.sees_choice() {
         choice(reader, left)
-    } else if reader.sees_round() {
-        round(reader, left)
+    } else if reader.sees(Symbol::Repeat) {
+        repeated(reader, left)
+    } else if reader.sees(Symbol::Iterate) {
+        iterated(reader, left)
     } else {
         normal(reader, left)
+    }
+}
+
+/// Takes a label, which may have one or more strategies in parentheses behind it.
+#[cycle(strategy)]
+#[tactic(auto, unfolding(crate::specs::Strategies::named, crate::specs::Strategies::arms))]
+fn named(reader: &mut Reader<'_>, left: u32) -> Result<u32, Halt>
+    ensures read { Reads (grammar.named grammar.strategy left) reader.old result reader.new }
+    ensures fewer { IfOk result (λ now. now < left) }
+{
+    let fits = reader.sees_label();
+    let left = reader.counted(fits, left)?;
+    if reader.sees(Symbol::LeftRound) {
+        arms(reader, left)
+    } else {
+        Ok(left)
     }
 }
 
@@ -138,16 +158,28 @@ fn alternatives(reader: &mut Reader<'_>, left: u32) -> Result<u32, Halt>
     }
 }
 
-/// Takes `repeat` or `iterate` with its `*`, and a strategy in parentheses.
+/// Takes `repeat` with its `*`, and a strategy in parentheses.
 #[cycle(strategy)]
-#[tactic(auto, unfolding(crate::specs::Strategies::round))]
-fn round(reader: &mut Reader<'_>, left: u32) -> Result<u32, Halt>
-    ensures read { Reads (grammar.round grammar.strategy left) reader.old result reader.new }
+#[tactic(auto, unfolding(crate::specs::Strategies::repeated))]
+fn repeated(reader: &mut Reader<'_>, left: u32) -> Result<u32, Halt>
+    ensures read { Reads (grammar.repeated grammar.strategy left) reader.old result reader.new }
     ensures fewer { IfOk result (λ now. now < left) }
 {
-    let fits = reader.sees_round();
-    let left = reader.counted(fits, left)?;
+    let left = reader.counted_sign(Symbol::Repeat, left)?;
     let left = reader.counted_sign(Symbol::Star, left)?;
+    inside(reader, left)
+}
+
+/// Takes `iterate` with its `*` or `+`, and a strategy in parentheses.
+#[cycle(strategy)]
+#[tactic(auto, unfolding(crate::specs::Strategies::iterated))]
+fn iterated(reader: &mut Reader<'_>, left: u32) -> Result<u32, Halt>
+    ensures read { Reads (grammar.iterated grammar.strategy left) reader.old result reader.new }
+    ensures fewer { IfOk result (λ now. now < left) }
+{
+    let left = reader.counted_sign(Symbol::Iterate, left)?;
+    let fits = reader.sees_round_sign();
+    let left = reader.counted(fits, left)?;
     inside(reader, left)
 }
 

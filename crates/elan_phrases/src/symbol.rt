@@ -54,6 +54,7 @@ pub enum Symbol {
     RightSquare,
     Hole,
     Star,
+    Plus,
     Sign,
 }
 
@@ -204,6 +205,8 @@ fn named_sign(sign: &[u8]) -> Option<Symbol>
         Some(Symbol::Hole)
     } else if sign == b"*".as_slice() {
         Some(Symbol::Star)
+    } else if sign == b"+".as_slice() {
+        Some(Symbol::Plus)
     } else {
         None
     }
@@ -273,6 +276,7 @@ pub fn names(symbol: Symbol) -> bool
             | Symbol::RightSquare
             | Symbol::Hole
             | Symbol::Star
+            | Symbol::Plus
             | Symbol::Sign
     )
 }
@@ -295,15 +299,12 @@ pub fn labels(symbol: Symbol) -> bool
     }
 }
 
-/// Whether it is a strategy of one token.
-#[tactic(auto, unfolding(crate::specs::Symbols::plain_steps, crate::specs::Symbols::labels))]
+/// Whether it is `id` or `fail`.
+#[tactic(auto, unfolding(crate::specs::Symbols::plain_steps))]
 pub fn plain_steps(symbol: Symbol) -> bool
     ensures { result ≡ spec.plain_steps symbol }
 {
-    match symbol {
-        Symbol::Id | Symbol::Fail => true,
-        _ => labels(symbol),
-    }
+    matches!(symbol, Symbol::Id | Symbol::Fail)
 }
 
 /// Whether it is `dc` or `first`.
@@ -314,12 +315,12 @@ pub fn choices(symbol: Symbol) -> bool
     matches!(symbol, Symbol::Dc | Symbol::First)
 }
 
-/// Whether it is `repeat` or `iterate`.
-#[tactic(auto, unfolding(crate::specs::Symbols::rounds))]
-pub fn rounds(symbol: Symbol) -> bool
-    ensures { result ≡ spec.rounds symbol }
+/// Whether it is `*` or `+`.
+#[tactic(auto, unfolding(crate::specs::Symbols::round_signs))]
+pub fn round_signs(symbol: Symbol) -> bool
+    ensures { result ≡ spec.round_signs symbol }
 {
-    matches!(symbol, Symbol::Repeat | Symbol::Iterate)
+    matches!(symbol, Symbol::Star | Symbol::Plus)
 }
 
 /// Whether it is a name that does not end the imports of an `LPL` text.
@@ -373,6 +374,7 @@ pub fn spelled(symbol: Symbol) -> bool
         | Symbol::RightSquare
         | Symbol::Hole
         | Symbol::Star
+        | Symbol::Plus
         | Symbol::Sign => true,
         _ => names(symbol),
     }
@@ -395,6 +397,7 @@ pub fn in_text(symbol: Symbol) -> bool
         | Symbol::RightSquare
         | Symbol::Hole
         | Symbol::Star
+        | Symbol::Plus
         | Symbol::Sign => true,
         _ => names(symbol),
     }

@@ -7,7 +7,7 @@ use Rattle.elan_phrases.specs.declared.span.Span.{Span}
 use Rattle.elan_phrases.specs.declared.symbol.Symbol.{Symbol}
 use Rattle.elan_phrases.specs.declared.symbol.Symbol.TheVariants.{Module, Import, Sort, Operators, Rules, Strategies, For, Where, If, End, Arrow, Becomes, Comma, Semicolon, Colon, LeftRound, RightRound, LeftSquare, RightSquare, Pri, Ac, AssocLeft, Implicit, Name}
 use Rattle.elan_phrases.specs.declared.symbol.Importer.TheVariants.{AModule}
-use Rattle.elan_phrases.specs.Symbols.{Seen, same_symbol, one, a, names, labels, plain_steps, choices, rounds, visibilities, spelled, associativities, in_text}
+use Rattle.elan_phrases.specs.Symbols.{Seen, same_symbol, one, a, names, labels, plain_steps, choices, visibilities, spelled, associativities, in_text}
 use Rattle.elan_phrases.specs.Beginnings.{begins_another_name, begins_imported, begins_declared, begins_ruled, begins_clause, begins_mark, begins_defined, begins_section}
 use Rattle.elan_phrases.specs.Tokens.{taken, sign, number_of, span, name, visibility}
 use Rattle.elan_phrases.proofs.SymbolSets.{separate, within}
@@ -24,7 +24,7 @@ use Rattle.elan_syntax.specs.declared.parts.Definition.{Definition}
 use Rattle.elan_syntax.specs.declared.attributes.Attribute.{Attribute}
 use Rattle.elan_syntax.specs.declared.attributes.Attribute.TheVariants.{Priority, Associativity, AcMark}
 use Rattle.elan_syntax.specs.declared.parameters.Parameters.{Parameters}
-use Rattle.elan_syntax.specs.Grammar.{import_list, one_import, more_imports, imports, sorts, priority, associativity, ac_mark, attribute, begins_attribute, one_of, two_of, some_attributes, more_spelled, spelling, argument_sorts, declaration, declared, more_declared, operators, another_name, more_names, vars, more_vars, where_clause, if_clause, clause_rule, more_clauses, bracket, sides, rule, ruled, more_ruled, bare_rule_first, ruled_sort, ruled_bracket, vars_first, visibility_first, behind_ruled, rules_for, rules, definition_behind, definition, mark, defined, more_defined, definition_first, defined_sort, defined_bracket, mark_first, behind_defined, strategies_for, strategies, parameter, no_parameters, more_parameters, parameters, section_rule, sections, module_behind, module_of}
+use Rattle.elan_syntax.specs.Grammar.{import_list, one_import, more_imports, imports, sorts, priority, associativity, ac_mark, attribute, begins_attribute, one_of, two_of, some_attributes, more_spelled, spelling, argument_sorts, declaration, declared, more_declared, operators, another_name, more_names, vars, more_vars, where_clause, if_clause, clause_rule, more_clauses, bracket, sides, rule, ruled, more_ruled, bare_rule_first, ruled_sort, ruled_bracket, vars_first, visibility_first, behind_ruled, rules_for, rules, one_label, more_labels, formals, some_formals, definition_behind, definition, mark, defined, more_defined, definition_first, defined_sort, defined_bracket, mark_first, behind_defined, strategies_for, strategies, parameter, no_parameters, more_parameters, parameters, section_rule, sections, module_behind, module_of}
 
 module _ (m : ℕ) where
   -- ---- imports
@@ -223,7 +223,7 @@ module _ (m : ℕ) where
   -- ---- rules
 
   where_clause_takes : Takes kind m (one Where) in_text where_clause
-  unfolding where_clause same_symbol in_text plain_steps labels names choices rounds
+  unfolding where_clause same_symbol in_text plain_steps labels names choices
   where_clause_takes =
       then_next (sign_takes m Where) (λ _.
       so (then_stands (text_takes m) (λ left.
@@ -348,14 +348,40 @@ module _ (m : ℕ) where
 
   -- ---- strategies
 
+  one_label_takes : (found : List ℕ) → Takes kind m labels none (one_label found)
+  unfolding labels names
+  one_label_takes found = then_last (number_takes m labels Name refl) (λ _. may_pure)
+
+  pub label_turn_takes : (found : List ℕ) → Takes kind m (one Comma) none (sign Comma >> one_label found)
+  label_turn_takes found = then_next (sign_takes m Comma) (λ _. so (one_label_takes found))
+
+  more_labels_may : (found : List ℕ) → May kind m (one Comma) (one Comma) (more_labels found)
+  unfolding more_labels
+  more_labels_may found = may_loop label_turn_takes apart_none within_itself none_within found
+
+  formals_takes : Takes kind m (one LeftRound) none formals
+  unfolding formals same_symbol
+  formals_takes =
+      then_next (sign_takes m LeftRound) (λ _.
+      so (then_next (one_label_takes []) (λ first.
+      may_then_stands (more_labels_may first) (λ found. so (then_last (sign_takes m RightRound) (λ _. may_pure)))
+      (separate refl))))
+
+  some_formals_may : May kind m (both (one LeftRound) none) (one LeftRound) some_formals
+  unfolding formals
+  some_formals_may = may_either (λ t. refl) (so (takes_more none_within formals_takes)) may_pure none_apart
+      within_itself
+
   definition_behind_takes : (at : ℕ) → Takes kind m (one RightSquare) none (definition_behind at)
   unfolding definition_behind same_symbol labels names
   definition_behind_takes at =
       then_next (sign_takes m RightSquare) (λ _.
       so (then_next (number_takes m labels Name refl) (λ name.
+      may_then_stands some_formals_may (λ parameters.
       so (then_next (sign_takes m Arrow) (λ _.
       so (then_stands (strategy_span_takes m) (λ by. so (then_last (sign_takes m End) (λ _. may_pure)))
-      (separate refl)))))))
+      (separate refl)))))
+      (separate refl))))
 
   definition_takes : Takes kind m (one LeftSquare) none definition
   unfolding definition

@@ -18,8 +18,8 @@ use Rattle.elan_syntax.specs.declared.parts.Definition.{Definition}
 use Rattle.elan_syntax.specs.declared.attributes.Attribute.{Attribute}
 use Rattle.elan_syntax.specs.declared.attributes.Attribute.TheVariants.{Priority, Associativity, AcMark}
 use Rattle.elan_syntax.specs.declared.parameters.Parameters.{Parameters}
-use Rattle.elan_syntax.specs.Grammar.{one_import, more_imports, priority, associativity, ac_mark, attribute, begins_attribute, one_of, two_of, more_spelled, declared, more_declared, another_name, more_names, vars, more_vars, clause_rule, more_clauses, ruled, more_ruled, defined, more_defined, parameter, more_parameters, section_rule, sections, module_of, more_modules}
-use Rattle.elan_syntax.proofs.ExactGrammar.{one_import_takes, one_spelled_takes, declared_takes, one_name_takes, one_vars_takes, one_clause_takes, ruled_takes, defined_takes, one_parameter_takes, one_section_takes}
+use Rattle.elan_syntax.specs.Grammar.{one_import, more_imports, priority, associativity, ac_mark, attribute, begins_attribute, one_of, two_of, more_spelled, declared, more_declared, another_name, more_names, vars, more_vars, clause_rule, more_clauses, ruled, more_ruled, one_label, more_labels, defined, more_defined, parameter, more_parameters, section_rule, sections, module_of, more_modules}
+use Rattle.elan_syntax.proofs.ExactGrammar.{one_import_takes, one_spelled_takes, declared_takes, one_name_takes, one_vars_takes, one_clause_takes, ruled_takes, label_turn_takes, defined_takes, one_parameter_takes, one_section_takes}
 use Rattle.elan_syntax.proofs.ExactStreams.{one_module_takes}
 
 -- ---- attributes
@@ -78,6 +78,13 @@ pub more_defined_reads : (found : List Definition) (n : ℕ) (ts : List Seen) �
     (done found n ts)
 unfolding more_defined
 more_defined_reads found n ts = loop_turn (λ _. a begins_defined) defined (λ x. (defined_takes 0 x).shrinks) found n ts
+
+pub more_labels_reads : (found : List ℕ) (n : ℕ) (ts : List Seen) →
+    (more_labels found).read n ts ≡ cond (begins_with (a (one Comma)) ts)
+    (after (after ((sign Comma).read n ts) (λ _. one_label found)) more_labels) (done found n ts)
+unfolding more_labels
+more_labels_reads found n ts = loop_turn (λ _. a (one Comma)) (λ found. sign Comma >> one_label found)
+    (λ x. (label_turn_takes 0 x).shrinks) found n ts
 
 pub more_names_reads : (found : List ℕ) (n : ℕ) (ts : List Seen) →
     (more_names found).read n ts ≡ cond (begins_with (a begins_another_name) ts)

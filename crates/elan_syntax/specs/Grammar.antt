@@ -312,17 +312,39 @@ rules = do
 
 -- ---- strategies
 
--- "]" LABEL "=>" strategy "end", behind the `[` of this number
+-- LABEL, behind those found
+abbrev pub one_label : List ℕ → Rule (List ℕ)
+one_label found = number_of (a labels) >>= (λ n. pure (found ++ n ∷ []))
+
+-- { "," LABEL }, each behind those found
+unfoldable pub more_labels : List ℕ → Rule (List ℕ)
+more_labels = loop (λ _. a (one Comma)) (λ found. sign Comma >> one_label found)
+
+-- "(" LABEL { "," LABEL } ")", where the labels may be equal
+unfoldable pub formals : Rule (List ℕ)
+formals = do
+  sign LeftRound
+  first ← one_label []
+  found ← more_labels first
+  sign RightRound
+  pure found
+
+-- [ "(" LABEL { "," LABEL } ")" ]
+abbrev pub some_formals : Rule (List ℕ)
+some_formals = either formals (pure [])
+
+-- "]" LABEL [ "(" LABEL { "," LABEL } ")" ] "=>" strategy "end", behind the `[` of this number
 unfoldable pub definition_behind : ℕ → Rule Definition
 definition_behind at = do
   sign RightSquare
   name ← number_of (a labels)
+  parameters ← some_formals
   sign Arrow
   by ← strategy_span
   sign End
-  pure (record { at = at; name = name; by = by })
+  pure (record { at = at; name = name; parameters = parameters; by = by })
 
--- definition = "[" "]" LABEL "=>" strategy "end"
+-- definition = "[" "]" LABEL [ "(" LABEL { "," LABEL } ")" ] "=>" strategy "end"
 unfoldable pub definition : Rule Definition
 definition = bracket >>= definition_behind
 
@@ -342,7 +364,8 @@ more_defined = loop (λ _. a begins_defined) defined
 abbrev pub strategies_of : Span → List Definition → StrategiesFor
 strategies_of sort definitions = record { sort = sort; definitions = definitions }
 
--- "]" LABEL "=>" strategy "end" { vis | "implicit" | definition }, behind the name of the sort and the `[` of this number
+-- "]" LABEL [ "(" LABEL { "," LABEL } ")" ] "=>" strategy "end" { vis | "implicit" | definition }, behind the name of
+-- the sort and the `[` of this number
 unfoldable pub definition_first : Span → ℕ → Rule StrategiesFor
 definition_first name at = do
   first ← definition_behind at

@@ -88,9 +88,9 @@ fn definition_first(
     ensures read { Reads (grammar.definition_first name at) reader.old result reader.new }
     ensures shorter { IfOk result (λ _. length reader.new.rest < length reader.old.rest) }
 {
-    let first = definition_behind(reader, at)?;
+    let first = definition_behind(alloc, reader, at)?;
     let first = pushed(Items::new(alloc), first)?;
-    let definitions = more_defined(reader, first)?;
+    let definitions = more_defined(alloc, reader, first)?;
     Ok(StrategiesFor {
         sort: name,
         definitions,
@@ -105,7 +105,7 @@ fn defined_sort(alloc: Global, reader: &mut Reader<'_>, name: Span) -> Result<St
 {
     closing_arguments(reader)?;
     let past = reader.at();
-    let definitions = more_defined(reader, Items::new(alloc))?;
+    let definitions = more_defined(alloc, reader, Items::new(alloc))?;
     Ok(StrategiesFor {
         sort: Span {
             first: name.first,
@@ -122,7 +122,7 @@ fn mark_first(alloc: Global, reader: &mut Reader<'_>, name: Span) -> Result<Stra
     ensures shorter { IfOk result (λ _. length reader.new.rest < length reader.old.rest) }
 {
     mark(reader)?;
-    let definitions = more_defined(reader, Items::new(alloc))?;
+    let definitions = more_defined(alloc, reader, Items::new(alloc))?;
     Ok(StrategiesFor {
         sort: name,
         definitions,
@@ -132,6 +132,7 @@ fn mark_first(alloc: Global, reader: &mut Reader<'_>, name: Span) -> Result<Stra
 /// Takes each further definition and puts it behind those before, and skips each `global`, `local` and `implicit`.
 #[tactic(auto, using(crate::proofs::Turns::more_defined_reads))]
 fn more_defined(
+    alloc: Global,
     reader: &mut Reader<'_>,
     before: Items<Definition>,
 ) -> Result<Items<Definition>, Halt>
@@ -140,14 +141,18 @@ fn more_defined(
 {
     let mut found = before;
     'definitions: while reader.sees_defined() {
-        found = defined(reader, found)?;
+        found = defined(alloc, reader, found)?;
     }
     Ok(found)
 }
 
 /// Takes a definition and puts it behind those before, or skips `global`, `local` or `implicit`.
 #[tactic(auto, unfolding(crate::specs::Grammar::defined, crate::specs::Grammar::mark))]
-fn defined(reader: &mut Reader<'_>, before: Items<Definition>) -> Result<Items<Definition>, Halt>
+fn defined(
+    alloc: Global,
+    reader: &mut Reader<'_>,
+    before: Items<Definition>,
+) -> Result<Items<Definition>, Halt>
     ensures read { Reads (grammar.defined before) reader.old result reader.new }
     ensures shorter { IfOk result (λ _. length reader.new.rest < length reader.old.rest) }
 {
@@ -155,7 +160,7 @@ fn defined(reader: &mut Reader<'_>, before: Items<Definition>) -> Result<Items<D
         mark(reader)?;
         Ok(before)
     } else {
-        let found = definition(reader)?;
+        let found = definition(alloc, reader)?;
         pushed(before, found)
     }
 }
@@ -172,25 +177,81 @@ fn mark(reader: &mut Reader<'_>) -> Result<(), Halt>
 
 /// Takes a definition.
 #[tactic(auto, unfolding(crate::specs::Grammar::definition))]
-fn definition(reader: &mut Reader<'_>) -> Result<Definition, Halt>
+fn definition(alloc: Global, reader: &mut Reader<'_>) -> Result<Definition, Halt>
     ensures read { Reads grammar.definition reader.old result reader.new }
     ensures shorter { IfOk result (λ _. length reader.new.rest < length reader.old.rest) }
 {
     let at = bracket(reader)?;
-    definition_behind(reader, at)
+    definition_behind(alloc, reader, at)
 }
 
 /// Takes a definition without the `[` of this number with which it begins.
 #[tactic(auto, unfolding(crate::specs::Grammar::definition_behind))]
-fn definition_behind(reader: &mut Reader<'_>, at: u32) -> Result<Definition, Halt>
+fn definition_behind(alloc: Global, reader: &mut Reader<'_>, at: u32) -> Result<Definition, Halt>
     ensures read { Reads (grammar.definition_behind at) reader.old result reader.new }
     ensures shorter { IfOk result (λ _. length reader.new.rest < length reader.old.rest) }
 {
     reader.sign(Symbol::RightSquare)?;
     let fits = reader.sees_label();
     let name = reader.number(fits)?;
+    let parameters = some_formals(alloc, reader)?;
     reader.sign(Symbol::Arrow)?;
     let by = strategy_span(reader)?;
     reader.sign(Symbol::End)?;
-    Ok(Definition { at, name, by })
+    Ok(Definition {
+        at,
+        name,
+        parameters,
+        by,
+    })
+}
+
+/// Takes the parameters of a definition, where it has some.
+#[tactic(auto, unfolding(crate::specs::Grammar::formals))]
+fn some_formals(alloc: Global, reader: &mut Reader<'_>) -> Result<Items<u32>, Halt>
+    ensures read { Reads grammar.some_formals reader.old result reader.new }
+    ensures no_longer { IfOk result (λ _. length reader.new.rest ≤ length reader.old.rest) }
+{
+    if reader.sees(Symbol::LeftRound) {
+        formals(alloc, reader)
+    } else {
+        Ok(Items::new(alloc))
+    }
+}
+
+/// Takes the parameters of a definition with their parentheses.
+#[tactic(auto, unfolding(crate::specs::Grammar::formals))]
+fn formals(alloc: Global, reader: &mut Reader<'_>) -> Result<Items<u32>, Halt>
+    ensures read { Reads grammar.formals reader.old result reader.new }
+    ensures shorter { IfOk result (λ _. length reader.new.rest < length reader.old.rest) }
+{
+    reader.sign(Symbol::LeftRound)?;
+    let first = one_label(reader, Items::new(alloc))?;
+    let found = more_labels(reader, first)?;
+    reader.sign(Symbol::RightRound)?;
+    Ok(found)
+}
+
+/// Takes each further label, behind its comma, and puts it behind those before.
+#[tactic(auto, using(crate::proofs::Turns::more_labels_reads))]
+fn more_labels(reader: &mut Reader<'_>, before: Items<u32>) -> Result<Items<u32>, Halt>
+    ensures read { Reads (grammar.more_labels before) reader.old result reader.new }
+    ensures no_longer { IfOk result (λ _. length reader.new.rest ≤ length reader.old.rest) }
+{
+    let mut found = before;
+    'labels: while reader.sees(Symbol::Comma) {
+        reader.sign(Symbol::Comma)?;
+        found = one_label(reader, found)?;
+    }
+    Ok(found)
+}
+
+/// Takes a label and puts it behind those before.
+fn one_label(reader: &mut Reader<'_>, before: Items<u32>) -> Result<Items<u32>, Halt>
+    ensures read { Reads (grammar.one_label before) reader.old result reader.new }
+    ensures shorter { IfOk result (λ _. length reader.new.rest < length reader.old.rest) }
+{
+    let fits = reader.sees_label();
+    let at = reader.number(fits)?;
+    pushed(before, at)
 }

@@ -31,7 +31,8 @@ pub fn outline(alloc: Global, bytes: &[u8], tokens: &[Token]) -> Result<Outline,
     requires count { length tokens.now < 2 ^ 32 }
     // What is found is a derivation of the grammar, and no other outline is.
     ensures found { IfOk result (λ o. IsOutline (seen bytes.now tokens.now) o) }
-    ensures only { IfOk result (λ o. (other : OutlineValue) → IsOutline (seen bytes.now tokens.now) other → other ≡ o) }
+    ensures only { IfOk result (λ o.
+        (other : OutlineValue) → IsOutline (seen bytes.now tokens.now) other → other ≡ o) }
     // A refusal says that there is no outline, and has the code and the place of the token that decides.
     ensures none { IfErr result (λ e. HasNone grammar.stream (seen bytes.now tokens.now) e) }
     ensures refused { IfErr result (λ e. IsRefusal grammar.stream bytes.now tokens.now e) }
@@ -59,11 +60,14 @@ pub fn module_outline(
     requires name { is_unreserved name.now.bytes ≡ true }
     // What is found is a derivation of the grammar, and no other outline is.
     ensures found { IfOk result (λ o. IsModuleOutline name.now (seen bytes.now tokens.now) o) }
-    ensures only { IfOk result (λ o. (other : ModuleValue) → IsModuleOutline name.now (seen bytes.now tokens.now) other
+    ensures only { IfOk result (λ o.
+        (other : ModuleValue) → IsModuleOutline name.now (seen bytes.now tokens.now) other
         → other ≡ o) }
     // A refusal says that there is no outline, and has the code and the place of the token that decides.
-    ensures none { IfErr result (λ e. HasNone (grammar.module_text name.now) (seen bytes.now tokens.now) e) }
-    ensures refused { IfErr result (λ e. IsRefusal (grammar.module_text name.now) bytes.now tokens.now e) }
+    ensures none { IfErr result (λ e.
+        HasNone (grammar.module_text name.now) (seen bytes.now tokens.now) e) }
+    ensures refused { IfErr result (λ e.
+        IsRefusal (grammar.module_text name.now) bytes.now tokens.now e) }
 {
     let lexemes = lexemes(alloc, bytes, tokens)?;
     let mut reader = Reader::new(lexemes.as_slice());

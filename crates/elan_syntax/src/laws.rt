@@ -16,9 +16,11 @@ ghost use Rattle.elan_syntax.specs.declared.definitions.StrategiesFor.{Strategie
 pub fn one_answer()
     ensures outline { (tokens : List Seen) (one two : OutlineValue) →
         IsOutline tokens one → IsOutline tokens two → one ≡ two }
-    ensures apart { (bytes : List ℕ) (tokens : List TokenValue) (outline : OutlineValue) (code : CodeValue) (at : PlaceValue) →
+    ensures apart { (bytes : List ℕ) (tokens : List TokenValue) (outline : OutlineValue)
+        (code : CodeValue) (at : PlaceValue) →
         IsOutline (seen bytes tokens) outline → Refuses bytes tokens code at → ⊥ }
-    ensures refusal { (bytes : List ℕ) (tokens : List TokenValue) (one two : CodeValue) (here there : PlaceValue) →
+    ensures refusal { (bytes : List ℕ) (tokens : List TokenValue) (one two : CodeValue)
+        (here there : PlaceValue) →
         Refuses bytes tokens one here → Refuses bytes tokens two there → (one ≡ two) × (here ≡ there) }
 {}
 
@@ -38,6 +40,7 @@ pub fn rules_behind_a_sort()
 
 /// What stands behind the `for` of a section of strategies is a sort expression and `{ vis | "implicit" | definition }`.
 pub fn strategies_behind_a_sort()
-    ensures { (n : ℕ) (tokens : List Seen) (found : StrategiesForValue) → strategies_for.words n tokens found
+    ensures { (n : ℕ) (tokens : List Seen) (found : StrategiesForValue)
+        → strategies_for.words n tokens found
         ↔ plain_strategies.words n tokens found }
 {}

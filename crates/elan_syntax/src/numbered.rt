@@ -1,11 +1,11 @@
 //! An outline with each of its parts, whose tokens were numbered by hand.
 
-use crate::{ClauseOutline, Definition, Section, Span, outline};
+use crate::{ClauseOutline, Section, Span, outline};
 use elan_lexer::tokens;
 use std::test::Fail;
 
 const TEXT: &[u8] =
-    b"module m [ X , Y ] import global n [ s ] k ; end sort s t [ u ] ; end operators f ( @ ) : ( s ) t [ u ] pri 7 ( AC ) ; end rules for s x , y : s ; [ r ] f ( x ) => x where y := ( r ) x if y end end strategies for t [ u ] implicit [ ] d => r ; r end end end LPL m description query of sort s result of sort s import m start with ( ) query end f ( a ) end";
+    b"module m [ X , Y ] import global n [ s ] k ; end sort s t [ u ] ; end operators f ( @ ) : ( s ) t [ u ] pri 7 ( AC ) ; end rules for s x , y : s ; [ r ] f ( x ) => x where y := ( r ) x if y end end strategies for t [ u ] implicit [ ] d => r ; r end [ ] twice ( X , Y ) => X ; Y end end end LPL m description query of sort s result of sort s import m start with ( ) query end f ( a ) end";
 
 /// The tokens from one number up to another.
 fn span(first: u32, past: u32) -> Span {
@@ -18,11 +18,11 @@ fn an_outline_has_the_numbers_of_its_tokens(rt: HostRuntime) -> Result<(), Fail>
     let outline = outline(rt.alloc(), TEXT, found.as_slice())
         .ok()
         .ok_or("there is an outline")?;
-    assert_eq!(rt; outline.lpl.query_sort, span(96, 97));
-    assert_eq!(rt; outline.lpl.result_sort, span(100, 101));
-    assert_eq!(rt; outline.lpl.imports.as_slice(), [span(102, 103)].as_slice());
+    assert_eq!(rt; outline.lpl.query_sort, span(109, 110));
+    assert_eq!(rt; outline.lpl.result_sort, span(113, 114));
+    assert_eq!(rt; outline.lpl.imports.as_slice(), [span(115, 116)].as_slice());
     assert_eq!(rt; outline.lpl.start, None);
-    assert_eq!(rt; outline.query, span(109, 113));
+    assert_eq!(rt; outline.query, span(122, 126));
     let [module] = outline.modules.as_slice() else {
         return Err("there is one module".into());
     };
@@ -80,13 +80,18 @@ fn a_section_has_the_numbers_of_its_tokens(rt: HostRuntime) -> Result<(), Fail> 
                 );
             }
             Section::Strategies { sort, definitions } => {
-                let wanted = Definition {
-                    at: 80,
-                    name: 82,
-                    by: span(84, 87),
+                let [plain, twice] = definitions.as_slice() else {
+                    return Err("there are two definitions".into());
                 };
                 assert_eq!(rt; *sort, span(75, 79));
-                assert_eq!(rt; definitions.as_slice(), [wanted].as_slice());
+                assert_eq!(rt; plain.at, 80);
+                assert_eq!(rt; plain.name, 82);
+                assert!(rt; plain.parameters.is_empty());
+                assert_eq!(rt; plain.by, span(84, 87));
+                assert_eq!(rt; twice.at, 88);
+                assert_eq!(rt; twice.name, 90);
+                assert_eq!(rt; twice.parameters.as_slice(), [92, 94].as_slice());
+                assert_eq!(rt; twice.by, span(97, 100));
             }
         }
     }

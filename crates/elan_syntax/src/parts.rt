@@ -88,12 +88,14 @@ pub enum ClauseOutline {
 }
 
 /// A definition of a strategy.
-#[derive(Clone, Copy, Debug, PartialEq, Eq)]
+#[derive(Debug, Drop)]
 pub struct Definition {
     /// The token `[` with which it begins.
     pub at: u32,
     /// The token that is its name.
     pub name: u32,
+    /// The tokens that are its parameters, two of which may be equal words.
+    pub parameters: Items<u32>,
     /// The strategy that it names.
     pub by: Span,
 }

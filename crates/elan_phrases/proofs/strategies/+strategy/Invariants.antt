@@ -9,6 +9,9 @@ decreases-strategy l = 8 * l.left + 6
 abbrev pub decreases-step : goal.decreases-step
 decreases-step l = 8 * l.left + 5
 
+abbrev pub decreases-named : goal.decreases-named
+decreases-named l = 8 * l.left + 4
+
 abbrev pub decreases-all_of : goal.decreases-all_of
 decreases-all_of l = 8 * l.left + 4
 
@@ -18,8 +21,11 @@ decreases-choice l = 8 * l.left + 4
 abbrev pub decreases-alternatives : goal.decreases-alternatives
 decreases-alternatives l = 8 * l.left + 4
 
-abbrev pub decreases-round : goal.decreases-round
-decreases-round l = 8 * l.left + 4
+abbrev pub decreases-repeated : goal.decreases-repeated
+decreases-repeated l = 8 * l.left + 4
+
+abbrev pub decreases-iterated : goal.decreases-iterated
+decreases-iterated l = 8 * l.left + 4
 
 abbrev pub decreases-normal : goal.decreases-normal
 decreases-normal l = 8 * l.left + 4

@@ -7,7 +7,7 @@ use Rattle.elan_prepare.specs.declared.prepared.Prepared.{Prepared}
 use Rattle.elan_run.specs.declared.status.Status.{Status}
 use Rattle.elan_run.specs.declared.status.Status.TheVariants as status
 use Rattle.elan_run.specs.Verdict.{Verdict, Misused, TooLong, BadToken, BadOutline, Accepted, NotBuilt, IsVerdict, IsReport, text_for, status_for}
-use Rattle.elan_run.specs.Runs.{Told, Answers, BreaksOff, Completes, Headline, Leaves}
+use Rattle.elan_run.specs.Runs.{Reading, Writing, ReadFailed, WriteFailed, Told, Answers, BreaksOff, Completes, Headline, Leaves, MeetsHeadline, IsComplete}
 use Rattle.elan_run.proofs.Verdicts.{one_report}
 
 -- nothing was written
@@ -31,102 +31,99 @@ same_report words left bytes other text written answer result is told report fou
     let P : List ℕ → Type 0 = λ bs. IsReport words bs written result in
     one_report words bytes text written answer result report (subst P (sym (told_is left bytes other told is)) found)
 
-module _ (words : ℕ) (left past before after : Option (List ℕ)) (ReadFailed WriteFailed : Type 0) where
-  Left : Status → Type 0
-  Left = Leaves words left past before after ReadFailed WriteFailed
-
+module _ (words : ℕ) (r : Reading) (w : Writing) where
   -- where nothing failed, the whole text is written or memory was wanted
-  module _ (bytes text : List ℕ) (answer : Status) (report : IsReport words bytes text answer) (is : left ≡ Some bytes) where
-    answered : (result : Status) → Answers words left before after result → Completes answer text before after result
+  module _ (bytes text : List ℕ) (answer : Status) (report : IsReport words bytes text answer) (is : r.left ≡ Some bytes) where
+    answered : (result : Status) → Answers words r.left w.before w.after result → Completes answer text w.before w.after result
     answered result a =
-        let same = same_report words left bytes a.bytes text a.text answer result is a.told report a.report in
-        let P : List ℕ → Type 0 = λ t. Appends before t after in
+        let same = same_report words r.left bytes a.bytes text a.text answer result is a.told report a.report in
+        let P : List ℕ → Type 0 = λ t. Appends w.before t w.after in
         inl (sym same.1, subst P (sym same.0) a.written)
 
-    pub completes : (result : Status) → Leaves words left past before after ReadFailed WriteFailed result
-        → (ReadFailed → ⊥) → (WriteFailed → ⊥) → Completes answer text before after result
-    completes status.Done l r w = answered status.Done l.0
-    completes status.Usage l r w = answered status.Usage l
-    completes (status.Refused code) l r w = answered (status.Refused code) l
-    completes status.ReadFault l r w = absurd (r l.1)
-    completes status.WriteFault l r w = absurd (w l.0)
-    completes status.NoMemory l r w = inr (refl, l.1)
+    pub completes : (result : Status) → Leaves words r w result
+        → (ReadFailed r → ⊥) → (WriteFailed w → ⊥) → Completes answer text w.before w.after result
+    completes status.Done l read write = answered status.Done l.0
+    completes status.Usage l read write = answered status.Usage l
+    completes (status.Refused code) l read write = answered (status.Refused code) l
+    completes status.ReadFault l read write = absurd (read l.1)
+    completes status.WriteFault l read write = absurd (write l.0)
+    completes status.NoMemory l read write = inr (refl, l.1)
 
-    -- in any case a front of it is written
-    front_of_part : AppendsPart before text after → (part : List ℕ) × (rest : List ℕ) × (text ≡ part ++ rest) × Appends before part after
-    front_of_part p = (p.0, p.1, p.2, p.4)
+    -- in any case a prefix of it is written
+    prefix_of_part : AppendsPart w.before text w.after → (part : List ℕ) × (rest : List ℕ) × (text ≡ part ++ rest) × Appends w.before part w.after
+    prefix_of_part p = (p.0, p.1, p.2, p.4)
 
-    nothing_written : after ≡ before → (part : List ℕ) × (rest : List ℕ) × (text ≡ part ++ rest) × Appends before part after
+    nothing_written : w.after ≡ w.before → (part : List ℕ) × (rest : List ℕ) × (text ≡ part ++ rest) × Appends w.before part w.after
     nothing_written same =
-        let P : Option (List ℕ) → Type 0 = λ a. Appends before [] a in
-        ([], text, refl, subst P (sym same) (appends_nothing before))
+        let P : Option (List ℕ) → Type 0 = λ a. Appends w.before [] a in
+        ([], text, refl, subst P (sym same) (appends_nothing w.before))
 
-    all_written : Appends before text after → (part : List ℕ) × (rest : List ℕ) × (text ≡ part ++ rest) × Appends before part after
-    all_written w = (text, [], sym (append-nil text), w)
+    all_written : Appends w.before text w.after → (part : List ℕ) × (rest : List ℕ) × (text ≡ part ++ rest) × Appends w.before part w.after
+    all_written whole = (text, [], sym (append-nil text), whole)
 
-    whole : (result : Status) → Answers words left before after result → Appends before text after
+    whole : (result : Status) → Answers words r.left w.before w.after result → Appends w.before text w.after
     whole result a =
-        let same = same_report words left bytes a.bytes text a.text answer result is a.told report a.report in
-        let P : List ℕ → Type 0 = λ t. Appends before t after in
+        let same = same_report words r.left bytes a.bytes text a.text answer result is a.told report a.report in
+        let P : List ℕ → Type 0 = λ t. Appends w.before t w.after in
         subst P (sym same.0) a.written
 
-    pub front : (result : Status) → Leaves words left past before after ReadFailed WriteFailed result
-        → (part : List ℕ) × (rest : List ℕ) × (text ≡ part ++ rest) × Appends before part after
-    front status.Done l = all_written (whole status.Done l.0)
-    front status.Usage l = all_written (whole status.Usage l)
-    front (status.Refused code) l = all_written (whole (status.Refused code) l)
-    front status.ReadFault l = nothing_written l.2
-    front status.WriteFault l =
-        let same = same_report words left bytes l.1.bytes text l.1.text answer l.1.answer is l.1.told report l.1.report in
-        let P : List ℕ → Type 0 = λ t. AppendsPart before t after in
-        front_of_part (subst P (sym same.0) l.1.written)
-    front status.NoMemory l = nothing_written l.1
+    pub prefix_of : (result : Status) → Leaves words r w result
+        → (part : List ℕ) × (rest : List ℕ) × (text ≡ part ++ rest) × Appends w.before part w.after
+    prefix_of status.Done l = all_written (whole status.Done l.0)
+    prefix_of status.Usage l = all_written (whole status.Usage l)
+    prefix_of (status.Refused code) l = all_written (whole (status.Refused code) l)
+    prefix_of status.ReadFault l = nothing_written l.2
+    prefix_of status.WriteFault l =
+        let same = same_report words r.left bytes l.1.bytes text l.1.text answer l.1.answer is l.1.told report l.1.report in
+        let P : List ℕ → Type 0 = λ t. AppendsPart w.before t w.after in
+        prefix_of_part (subst P (sym same.0) l.1.written)
+    prefix_of status.NoMemory l = nothing_written l.1
 
   -- what is accepted
-  pub headline : (bytes : List ℕ) (p : Prepared) (result : Status) → IsVerdict words bytes (Accepted p) → left ≡ Some bytes
-      → Leaves words left past before after ReadFailed WriteFailed result
-      → Headline (text_for (Accepted p)) before after (ReadFailed ⊎ WriteFailed) result
+  pub headline : (bytes : List ℕ) (p : Prepared) (result : Status) → IsVerdict words bytes (Accepted p) → r.left ≡ Some bytes
+      → Leaves words r w result
+      → Headline (text_for (Accepted p)) w.before w.after (ReadFailed r ⊎ WriteFailed w) result
   headline bytes p result accepted is leaves =
       let report : IsReport words bytes (text_for (Accepted p)) status.Done =
       record { verdict = Accepted p; applies = accepted; says = record { text_is = refl; answer_is = refl } } in
       record {
-        exact = λ no_fault memory. done_of (completes bytes (text_for (Accepted p)) status.Done report is result leaves (λ r. no_fault (inl r)) (λ w. no_fault (inr w))) memory;
-        front = front bytes (text_for (Accepted p)) status.Done report is result leaves;
+        exact = λ no_fault memory. done_of (completes bytes (text_for (Accepted p)) status.Done report is result leaves (λ read. no_fault (inl read)) (λ write. no_fault (inr write))) memory;
+        prefix = prefix_of bytes (text_for (Accepted p)) status.Done report is result leaves;
       }
     where
-      done_of : Completes status.Done (text_for (Accepted p)) before after result → (result ≡ status.NoMemory → ⊥)
-          → (result ≡ status.Done) × Appends before (text_for (Accepted p)) after
+      done_of : Completes status.Done (text_for (Accepted p)) w.before w.after result → (result ≡ status.NoMemory → ⊥)
+          → (result ≡ status.Done) × Appends w.before (text_for (Accepted p)) w.after
       done_of (inl both) memory = both
       done_of (inr wanted) memory = absurd (memory wanted.0)
 
   -- ---- each status
 
-  pub done_leaves : (result : Status) → Leaves words left past before after ReadFailed WriteFailed result → result ≡ status.Done
-      → Answers words left before after status.Done × IsAtEnd past
-  done_leaves result l e = let P : Status → Type 0 = Leaves words left past before after ReadFailed WriteFailed in subst P e l
+  pub done_leaves : (result : Status) → Leaves words r w result → result ≡ status.Done
+      → Answers words r.left w.before w.after status.Done × IsAtEnd r.past
+  done_leaves result l e = let P : Status → Type 0 = Leaves words r w in subst P e l
 
-  pub usage_leaves : (result : Status) → Leaves words left past before after ReadFailed WriteFailed result → result ≡ status.Usage
-      → Answers words left before after status.Usage
-  usage_leaves result l e = let P : Status → Type 0 = Leaves words left past before after ReadFailed WriteFailed in subst P e l
+  pub usage_leaves : (result : Status) → Leaves words r w result → result ≡ status.Usage
+      → Answers words r.left w.before w.after status.Usage
+  usage_leaves result l e = let P : Status → Type 0 = Leaves words r w in subst P e l
 
-  pub refused_leaves : (result : Status) (code : Code) → Leaves words left past before after ReadFailed WriteFailed result
-      → result ≡ status.Refused code → Answers words left before after (status.Refused code)
-  refused_leaves result code l e = let P : Status → Type 0 = Leaves words left past before after ReadFailed WriteFailed in subst P e l
+  pub refused_leaves : (result : Status) (code : Code) → Leaves words r w result
+      → result ≡ status.Refused code → Answers words r.left w.before w.after (status.Refused code)
+  refused_leaves result code l e = let P : Status → Type 0 = Leaves words r w in subst P e l
 
-  pub read_fault_leaves : (result : Status) → Leaves words left past before after ReadFailed WriteFailed result → result ≡ status.ReadFault
-      → (words ≡ 0) × ReadFailed × (after ≡ before)
-  read_fault_leaves result l e = let P : Status → Type 0 = Leaves words left past before after ReadFailed WriteFailed in subst P e l
+  pub read_fault_leaves : (result : Status) → Leaves words r w result → result ≡ status.ReadFault
+      → (words ≡ 0) × ReadFailed r × (w.after ≡ w.before)
+  read_fault_leaves result l e = let P : Status → Type 0 = Leaves words r w in subst P e l
 
-  pub write_fault_leaves : (result : Status) → Leaves words left past before after ReadFailed WriteFailed result → result ≡ status.WriteFault
-      → WriteFailed × BreaksOff words left before after
-  write_fault_leaves result l e = let P : Status → Type 0 = Leaves words left past before after ReadFailed WriteFailed in subst P e l
+  pub write_fault_leaves : (result : Status) → Leaves words r w result → result ≡ status.WriteFault
+      → WriteFailed w × BreaksOff words r.left w.before w.after
+  write_fault_leaves result l e = let P : Status → Type 0 = Leaves words r w in subst P e l
 
-  pub no_memory_leaves : (result : Status) → Leaves words left past before after ReadFailed WriteFailed result → result ≡ status.NoMemory
-      → (words ≡ 0) × (after ≡ before)
-  no_memory_leaves result l e = let P : Status → Type 0 = Leaves words left past before after ReadFailed WriteFailed in subst P e l
+  pub no_memory_leaves : (result : Status) → Leaves words r w result → result ≡ status.NoMemory
+      → (words ≡ 0) × (w.after ≡ w.before)
+  no_memory_leaves result l e = let P : Status → Type 0 = Leaves words r w in subst P e l
 
   -- words are answered by the usage line alone
-  pub words_leave : (result : Status) → Leaves words left past before after ReadFailed WriteFailed result → 0 < words
+  pub words_leave : (result : Status) → Leaves words r w result → 0 < words
       → (result ≡ status.Usage) ⊎ (result ≡ status.WriteFault)
   words_leave status.Usage l some = inl refl
   words_leave status.WriteFault l some = inr refl

@@ -7,7 +7,7 @@ use Rattle.elan_run.specs.declared.status.Status.{Status}
 use Rattle.elan_run.specs.declared.status.Status.TheVariants as status
 use Rattle.elan_run.specs.Lines.{usage_line}
 use Rattle.elan_run.specs.Verdict.{most_bytes, Verdict, Misused, TooLong, BadToken, BadOutline, Accepted, NotBuilt, IsReport, Says, status_for}
-use Rattle.elan_run.specs.Runs.{Told, Answers, BreaksOff, Sends, Finishes, Leaves}
+use Rattle.elan_run.specs.Runs.{Reading, Writing, WriteFailed, Told, Answers, BreaksOff, Sends, Finishes, Leaves}
 
 -- what was read to the end is what the source had left
 pub drained_told : (left past : Option (List ℕ)) (bytes : List ℕ) → Drained left bytes past → Told left bytes
@@ -32,10 +32,10 @@ pub some_told : (left : Option (List ℕ)) → (bytes : List ℕ) × Told left b
 some_told None = ([], tt)
 some_told (Some left) = (left, refl)
 
-module _ (words : ℕ) (left past before after : Option (List ℕ)) (ReadFailed WriteFailed : Type 0) where
+module _ (words : ℕ) (r : Reading) (w : Writing) where
   -- an answer of a verdict is left as such
-  leaves_answer : (v : Verdict) → Answers words left before after (status_for v) → (status_for v ≡ status.Done → IsAtEnd past)
-      → Leaves words left past before after ReadFailed WriteFailed (status_for v)
+  leaves_answer : (v : Verdict) → Answers words r.left w.before w.after (status_for v) → (status_for v ≡ status.Done → IsAtEnd r.past)
+      → Leaves words r w (status_for v)
   leaves_answer Misused a end = a
   leaves_answer TooLong a end = a
   leaves_answer (BadToken code at) a end = a
@@ -44,28 +44,28 @@ module _ (words : ℕ) (left past before after : Option (List ℕ)) (ReadFailed 
   leaves_answer NotBuilt a end = a
 
   -- the text and the status of a report were sent
-  pub leaves_sent : (bytes text : List ℕ) (answer result : Status) → Told left bytes → IsReport words bytes text answer
-      → (answer ≡ status.Done → IsAtEnd past) → Sends text answer before after WriteFailed result
-      → Leaves words left past before after ReadFailed WriteFailed result
+  pub leaves_sent : (bytes text : List ℕ) (answer result : Status) → Told r.left bytes → IsReport words bytes text answer
+      → (answer ≡ status.Done → IsAtEnd r.past) → Sends text answer w result
+      → Leaves words r w result
   leaves_sent bytes text answer result told report end (inl sent) =
-      let P : Status → Type 0 = Leaves words left past before after ReadFailed WriteFailed in
-      let Q : Status → Type 0 = Answers words left before after in
+      let P : Status → Type 0 = Leaves words r w in
+      let Q : Status → Type 0 = Answers words r.left w.before w.after in
       let is : answer ≡ status_for report.verdict = report.says.answer_is in
-      let a : Answers words left before after answer = record { bytes = bytes; text = text; told = told; report = report; written = sent.1 } in
+      let a : Answers words r.left w.before w.after answer = record { bytes = bytes; text = text; told = told; report = report; written = sent.1 } in
       subst P (sym is ∙ sym sent.0) (leaves_answer report.verdict (subst Q is a) (λ e. end (is ∙ e)))
   leaves_sent bytes text answer result told report end (inr broken) =
-      let P : Status → Type 0 = Leaves words left past before after ReadFailed WriteFailed in
-      let b : BreaksOff words left before after =
+      let P : Status → Type 0 = Leaves words r w in
+      let b : BreaksOff words r.left w.before w.after =
       record { bytes = bytes; text = text; answer = answer; told = told; report = report; written = broken.2 } in
       subst P (sym broken.0) (broken.1, b)
 
   -- what was made for the bytes was finished
-  pub leaves_finished : {E : Type 0} (bytes : List ℕ) (made : Result Answer E) (result : Status) → words ≡ 0 → Told left bytes
-      → IfOk made (λ a. IsReport words bytes a.text.items a.status) → IfOk made (λ a. a.status ≡ status.Done → IsAtEnd past)
-      → Finishes WriteFailed before after made result → Leaves words left past before after ReadFailed WriteFailed result
+  pub leaves_finished : {E : Type 0} (bytes : List ℕ) (made : Result Answer E) (result : Status) → words ≡ 0 → Told r.left bytes
+      → IfOk made (λ a. IsReport words bytes a.text.items a.status) → IfOk made (λ a. a.status ≡ status.Done → IsAtEnd r.past)
+      → Finishes w made result → Leaves words r w result
   leaves_finished bytes (Ok a) result none told report end sent = leaves_sent bytes a.text.items a.status result told report end sent
   leaves_finished bytes (Err e) result none told report end sent =
-      let P : Status → Type 0 = Leaves words left past before after ReadFailed WriteFailed in
+      let P : Status → Type 0 = Leaves words r w in
       subst P (sym sent.0) (none, sent.1)
 
 -- what was made for an input that is too long is its report

@@ -2,3 +2,4 @@ pub mod Asking
 pub mod Verdicts
 pub mod Leaving
 pub mod Causes
+pub mod Reports

@@ -9,3 +9,9 @@ pub fn one_report()
     ensures { (words : ℕ) (bytes text other : List ℕ) (answer another : StatusValue) →
         IsReport words bytes text answer → IsReport words bytes other another → (text ≡ other) × (answer ≡ another) }
 {}
+
+/// Words and an input have a report.
+pub fn some_report()
+    ensures { (words : ℕ) (bytes : List ℕ)
+        → (text : List ℕ) × (answer : StatusValue) × IsReport words bytes text answer }
+{}

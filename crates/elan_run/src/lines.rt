@@ -169,7 +169,8 @@ fn line_end() -> &'static [u8]
 }
 
 fn result_text_onto(out: &mut Vec<u8>, signature: &Signature, term: &Term) -> Result<(), NoMemory>
-    ensures { OnOk result (out.new.items ≡ out.old.items ++ spec.result_text signature.now term.now) }
+    ensures { OnOk result (out.new.items
+        ≡ out.old.items ++ spec.result_text signature.now term.now) }
 {
     out.extend_from_slice(result_mark())?;
     out.extend_from_slice(term_text(signature, term))?;
@@ -193,7 +194,8 @@ fn item_line_onto(
     number: u32,
     item: &Item,
 ) -> Result<(), NoMemory>
-    ensures { OnOk result (out.new.items ≡ out.old.items ++ spec.item_line signature.now number item.now) }
+    ensures { OnOk result (out.new.items
+        ≡ out.old.items ++ spec.item_line signature.now number item.now) }
 {
     out.extend_from_slice(number_mark())?;
     number_onto(out, number)?;
@@ -205,7 +207,8 @@ fn item_line_onto(
 
 fn item_lines_onto(out: &mut Vec<u8>, signature: &Signature, items: &[Item]) -> Result<(), NoMemory>
     requires { length items.now ≤ 1000000 }
-    ensures { OnOk result (out.new.items ≡ out.old.items ++ spec.item_lines signature.now 1 items.now) }
+    ensures { OnOk result (out.new.items
+        ≡ out.old.items ++ spec.item_lines signature.now 1 items.now) }
 {
     for index in 0..items.len() {
         item_line_onto(out, signature, index as u32 + 1, &items[index])?;

@@ -1,13 +1,8 @@
 //! The top call.
 
-ghost use Rattle.std.specs.Prelude.{◌≡◌, ◌≤◌, ◌<◌, ◌⊎◌, ℕ, List, Some, length};
-ghost use Rattle.elan_text.specs.Streams.{Rose, IsAtEnd};
+ghost use Rattle.std.specs.Prelude.{◌≡◌, ◌≤◌, ◌<◌, ◌⊎◌, length};
 ghost use Rattle.elan_text.specs.Whole.{IsPast};
-ghost use Rattle.elan_text.specs.declared.refusal.Code.{Code as CodeValue};
-ghost use Rattle.elan_prepare.specs.declared.prepared.Prepared.{Prepared as PreparedValue};
-ghost use Rattle.elan_run.specs.declared.status.Status.{Status as StatusValue};
-ghost use Rattle.elan_run.specs.Verdict.{IsVerdict, IsReport, Accepted, text_for};
-ghost use Rattle.elan_run.specs.Runs.{Answers, BreaksOff, Completes, Finishes, Headline, Leaves, Sends};
+ghost use Rattle.elan_run.specs.Runs.{read, wrote, Finishes, IsComplete, Leaves, MeetsHeadline, Sends};
 
 use crate::answer::{Answer, answered, too_long};
 use crate::lines::USAGE_LINE;
@@ -20,7 +15,9 @@ const MOST_BYTES: usize = 4_194_304;
 
 /// Writes a text and answers the status that goes with it, or `WriteFault`.
 fn send<K: Sink>(sink: &mut K, text: &[u8], status: Status) -> Status
-    ensures sends { Sends text.now status (K.written sink.old) (K.written sink.new) (Rose (K.failures sink.old) (K.failures sink.new)) result }
+    ensures sends { Sends text.now status
+        (wrote (K.written sink.old) (K.written sink.new) (K.failures sink.old) (K.failures sink.new))
+        result }
     ensures kept { K.failures sink.old ≤ K.failures sink.new }
 {
     match write_all(sink, text) {
@@ -31,7 +28,10 @@ fn send<K: Sink>(sink: &mut K, text: &[u8], status: Status) -> Status
 
 /// Writes what was answered, where memory was there for it.
 fn finish<K: Sink>(sink: &mut K, made: Result<Answer, NoMemory>) -> Status
-    ensures { Finishes (Rose (K.failures sink.old) (K.failures sink.new)) (K.written sink.old) (K.written sink.new) made result }
+    ensures finishes { Finishes
+        (wrote (K.written sink.old) (K.written sink.new) (K.failures sink.old) (K.failures sink.new))
+        made result }
+    ensures kept { K.failures sink.old ≤ K.failures sink.new }
 {
     match made {
         Ok(answer) => send(sink, answer.text.as_slice(), answer.status),
@@ -41,8 +41,12 @@ fn finish<K: Sink>(sink: &mut K, made: Result<Answer, NoMemory>) -> Status
 
 /// A run without words.
 fn without_words<S: Source, K: Sink>(alloc: Global, source: &mut S, sink: &mut K) -> Status
-    ensures leaves { Leaves 0 (S.left source.old) (S.left source.new) (K.written sink.old) (K.written sink.new)
-        (Rose (S.failures source.old) (S.failures source.new)) (Rose (K.failures sink.old) (K.failures sink.new)) result }
+    ensures leaves { Leaves 0
+        (read (S.left source.old) (S.left source.new) (S.failures source.old) (S.failures source.new))
+        (wrote (K.written sink.old) (K.written sink.new) (K.failures sink.old) (K.failures sink.new))
+        result }
+    ensures read_kept { S.failures source.old ≤ S.failures source.new }
+    ensures kept { K.failures sink.old ≤ K.failures sink.new }
     ensures past { IsPast (S.left source.old) (S.left source.new) }
 {
     match read_all(alloc, source, MOST_BYTES) {
@@ -55,8 +59,12 @@ fn without_words<S: Source, K: Sink>(alloc: Global, source: &mut S, sink: &mut K
 
 /// A run, with all that it leaves.
 fn ran<S: Source, K: Sink>(alloc: Global, words: &[String], source: &mut S, sink: &mut K) -> Status
-    ensures leaves { Leaves (length words.now) (S.left source.old) (S.left source.new) (K.written sink.old) (K.written sink.new)
-        (Rose (S.failures source.old) (S.failures source.new)) (Rose (K.failures sink.old) (K.failures sink.new)) result }
+    ensures leaves { Leaves (length words.now)
+        (read (S.left source.old) (S.left source.new) (S.failures source.old) (S.failures source.new))
+        (wrote (K.written sink.old) (K.written sink.new) (K.failures sink.old) (K.failures sink.new))
+        result }
+    ensures read_kept { S.failures source.old ≤ S.failures source.new }
+    ensures kept { K.failures sink.old ≤ K.failures sink.new }
     ensures past { IsPast (S.left source.old) (S.left source.new) }
     ensures unread { 0 < length words.now → source.new ≡ source.old }
 {
@@ -78,28 +86,24 @@ pub fn run_plain<S: Source, K: Sink>(
     sink: &mut K,
 ) -> Status
     // For what is accepted: a run that met no fault and was refused no memory wrote exactly the report of the first
-    // items of the list that sequential backtracking defines; any other run wrote a front of it.
-    ensures headline { (bytes : List ℕ) (p : PreparedValue) → IsVerdict (length words.now) bytes (Accepted p) → S.left source.old ≡ Some bytes
-        → Headline (text_for (Accepted p)) (K.written sink.old) (K.written sink.new)
-        (Rose (S.failures source.old) (S.failures source.new) ⊎ Rose (K.failures sink.old) (K.failures sink.new)) result }
+    // items of the list that sequential backtracking defines; any other run wrote a prefix of it.
+    ensures headline { MeetsHeadline (length words.now)
+        (read (S.left source.old) (S.left source.new) (S.failures source.old) (S.failures source.new))
+        (wrote (K.written sink.old) (K.written sink.new) (K.failures sink.old) (K.failures sink.new))
+        result }
     // For every input: where no count of faults rose, the whole text was written and the status is that of the input,
     // or memory was wanted and nothing was written.
-    ensures complete { (bytes text : List ℕ) (answer : StatusValue) → IsReport (length words.now) bytes text answer → S.left source.old ≡ Some bytes
-        → (Rose (S.failures source.old) (S.failures source.new) → ⊥) → (Rose (K.failures sink.old) (K.failures sink.new) → ⊥)
-        → Completes answer text (K.written sink.old) (K.written sink.new) result }
-
-    // The cause of each status.
-    ensures done { result ≡ Status.Done → Answers (length words.now) (S.left source.old) (K.written sink.old) (K.written sink.new) Status.Done }
-    ensures drained { result ≡ Status.Done → IsAtEnd (S.left source.new) }
-    ensures usage { result ≡ Status.Usage → Answers (length words.now) (S.left source.old) (K.written sink.old) (K.written sink.new) Status.Usage }
-    ensures refused { (code : CodeValue) → result ≡ Status.Refused code
-        → Answers (length words.now) (S.left source.old) (K.written sink.old) (K.written sink.new) (Status.Refused code) }
-    ensures read_fault { result ≡ Status.ReadFault → (length words.now ≡ 0) × Rose (S.failures source.old) (S.failures source.new)
-        × (K.written sink.new ≡ K.written sink.old) }
-    ensures write_fault { result ≡ Status.WriteFault → Rose (K.failures sink.old) (K.failures sink.new)
-        × BreaksOff (length words.now) (S.left source.old) (K.written sink.old) (K.written sink.new) }
-    ensures no_memory { result ≡ Status.NoMemory → (length words.now ≡ 0) × (K.written sink.new ≡ K.written sink.old) }
-
+    ensures complete { IsComplete (length words.now)
+        (read (S.left source.old) (S.left source.new) (S.failures source.old) (S.failures source.new))
+        (wrote (K.written sink.old) (K.written sink.new) (K.failures sink.old) (K.failures sink.new))
+        result }
+    // The cause of each status, and what it leaves.
+    ensures leaves { Leaves (length words.now)
+        (read (S.left source.old) (S.left source.new) (S.failures source.old) (S.failures source.new))
+        (wrote (K.written sink.old) (K.written sink.new) (K.failures sink.old) (K.failures sink.new))
+        result }
+    ensures read_kept { S.failures source.old ≤ S.failures source.new }
+    ensures kept { K.failures sink.old ≤ K.failures sink.new }
     // Words are refused whatever the source has, and the source is not read.
     ensures words { 0 < length words.now → (result ≡ Status.Usage) ⊎ (result ≡ Status.WriteFault) }
     ensures unread { 0 < length words.now → source.new ≡ source.old }

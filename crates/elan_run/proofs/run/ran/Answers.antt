@@ -6,4 +6,4 @@ pub returns-else-is_empty-clause-leaves : goal.returns-else-is_empty-clause-leav
 returns-else-is_empty-clause-leaves g c =
     let some : 0 < length c.args.words.now = grind (arith, c.if-is_empty.ensures) in
     let left = some_told (g.S.Source.left c.args.source.now) in
-    leaves_sent _ _ _ _ _ _ _ _ _ _ _ left.1 (usage_reported _ left.0 some) (usage_undone _) c.send.ensures.sends
+    leaves_sent _ _ _ _ _ _ _ left.1 (usage_reported _ left.0 some) (usage_undone _) c.send.ensures.sends

@@ -1,4 +1,5 @@
-//! Programs as tables of words. A pattern is written with each operator behind its arguments.
+//! Programs as tables of words. A pattern is written with each operator behind its arguments, and a strategy with each
+//! combination behind its parts. A word that nothing is named by is no pattern and no strategy.
 
 use elan_program::{
     Assoc, Builtin, Clause, Named, Operator, Parts, Piece, Program, Rule, Signature, Strategy,
@@ -18,15 +19,23 @@ pub const BOOL: SortId = SortId(1);
 /// The sort of other terms.
 pub const OTHER: SortId = SortId(2);
 
-/// An operator: its name, which stands before its arguments in the spelling.
-#[derive(Clone, Copy)]
-pub struct Op {
-    pub name: &'static str,
-    pub args: &'static [SortId],
-    pub sort: SortId,
-    pub ac: bool,
-    pub builtin: Option<Builtin>,
+/// What an operator is.
+#[derive(Clone, Copy, PartialEq, Eq)]
+pub enum Kind {
+    Plain,
+    /// Associative and commutative.
+    Union,
+    Builtin(Builtin),
 }
+
+/// An operator: its name, which stands before its arguments in the spelling, its argument sorts, its sort, and its kind.
+#[derive(Clone, Copy)]
+pub struct Op(
+    pub &'static str,
+    pub &'static [SortId],
+    pub SortId,
+    pub Kind,
+);
 
 /// A condition: the words of its pattern; or of its left side, its strategy and the term that it starts from.
 #[derive(Clone, Copy)]
@@ -35,13 +44,21 @@ pub enum Condition {
     Where(&'static [&'static str], &'static [&'static str], &'static [&'static str]),
 }
 
-/// A rule. One without a label has no bytes there.
+/// A rule: its label, which has no bytes where there is none, its two sides, and its conditions.
 #[derive(Clone, Copy)]
-pub struct Line {
-    pub label: &'static str,
-    pub left: &'static [&'static str],
-    pub right: &'static [&'static str],
-    pub conditions: &'static [Condition],
+pub struct Line(
+    pub &'static str,
+    pub &'static [&'static str],
+    pub &'static [&'static str],
+    pub &'static [Condition],
+);
+
+/// A named strategy: its name, the names of its parameters, and its body.
+#[derive(Clone, Copy)]
+pub struct Definition {
+    pub name: &'static str,
+    pub parameters: &'static [&'static str],
+    pub body: &'static [&'static str],
 }
 
 /// A program: its operators, its variables with their sorts, its rules, which are all for one sort, and the named
@@ -52,7 +69,7 @@ pub struct Described {
     pub variables: &'static [(&'static str, SortId)],
     pub sort: SortId,
     pub rules: &'static [Line],
-    pub named: &'static [(&'static str, &'static [&'static str])],
+    pub named: &'static [Definition],
 }
 
 fn name(alloc: Global, text: &str) -> Result<Name, NoMemory> {
@@ -61,24 +78,29 @@ fn name(alloc: Global, text: &str) -> Result<Name, NoMemory> {
 
 fn operator(alloc: Global, op: &Op) -> Result<Operator, NoMemory> {
     let mut pieces = Items::new(alloc);
-    pieces.push(Piece::Word(name(alloc, op.name)?))?;
-    for _ in op.args {
+    pieces.push(Piece::Word(name(alloc, op.0)?))?;
+    for _ in op.1 {
         pieces.push(Piece::Hole)?;
     }
     Ok(Operator {
         pieces,
-        args: Items::from_slice(alloc, op.args)?,
-        sort: op.sort,
+        args: Items::from_slice(alloc, op.1)?,
+        sort: op.2,
         pri: 0,
         assoc: Assoc::No,
-        ac: op.ac,
-        builtin: op.builtin,
+        ac: op.3 == Kind::Union,
+        builtin: match op.3 {
+            Kind::Builtin(builtin) => Some(builtin),
+            _ => None,
+        },
     })
 }
 
 /// The number of the operator with a built-in operation.
 fn number_of(operators: &[Op], builtin: Builtin) -> u32 {
-    let found = operators.iter().position(|op| op.builtin == Some(builtin));
+    let found = operators
+        .iter()
+        .position(|op| op.3 == Kind::Builtin(builtin));
     match found {
         Some(number) => u32::try_from(number).unwrap_or(0),
         None => 0,
@@ -97,7 +119,7 @@ fn signature(alloc: Global, described: &Described) -> Result<Signature, NoMemory
     let has_truth = described
         .operators
         .iter()
-        .any(|op| op.builtin == Some(Builtin::Yes));
+        .any(|op| op.3 == Kind::Builtin(Builtin::Yes));
     let truth = Truth {
         sort: BOOL,
         yes: OpId(number_of(described.operators, Builtin::Yes)),
@@ -122,21 +144,33 @@ fn int_pattern(value: i64) -> Pattern {
     }
 }
 
-/// Takes as many arguments from the end of what was read. Where there are too few, a 0 stands for each that is missing.
-fn taken(
+/// Takes so many from the end of what was read, in order; nothing where there are fewer.
+fn taken<T: Drop>(
     alloc: Global,
-    read: &mut Items<Pattern>,
+    read: &mut Items<T>,
     count: usize,
-) -> Result<Items<Pattern>, NoMemory> {
+) -> Result<Option<Items<T>>, NoMemory> {
     let mut reversed = Items::new(alloc);
     for _ in 0..count {
-        reversed.push(read.pop().unwrap_or(int_pattern(0)))?;
+        match read.pop() {
+            None => return Ok(None),
+            Some(last) => reversed.push(last)?,
+        }
     }
-    let mut args = Items::new(alloc);
+    let mut parts = Items::new(alloc);
     for _ in 0..count {
-        args.push(reversed.pop().unwrap_or(int_pattern(0)))?;
+        match reversed.pop() {
+            None => return Ok(None),
+            Some(next) => parts.push(next)?,
+        }
     }
-    Ok(args)
+    Ok(Some(parts))
+}
+
+/// The only one that was read; nothing where there are none or more.
+fn only<T: Drop>(mut read: Items<T>) -> Option<T> {
+    let last = read.pop();
+    if read.is_empty() { last } else { None }
 }
 
 /// The pattern that one word adds to what was read.
@@ -145,167 +179,295 @@ fn pattern_of(
     described: &Described,
     read: &mut Items<Pattern>,
     word: &str,
-) -> Result<Pattern, NoMemory> {
+) -> Result<Option<Pattern>, NoMemory> {
     if let Some(value) = integer(word) {
-        return Ok(int_pattern(value));
+        return Ok(Some(int_pattern(value)));
     }
-    let variables = described.variables;
-    if let Some(number) = variables.iter().position(|there| there.0 == word) {
-        let sort = match variables.get(number) {
-            Some(there) => there.1,
-            None => INT,
-        };
-        return Ok(Pattern {
-            node: PatternNode::Var(u32::try_from(number).unwrap_or(0), sort),
-        });
+    for (number, (name, sort)) in described.variables.iter().enumerate() {
+        if *name == word {
+            let number = u32::try_from(number).unwrap_or(0);
+            return Ok(Some(Pattern {
+                node: PatternNode::Var(number, *sort),
+            }));
+        }
     }
-    let operators = described.operators;
-    let number = operators.iter().position(|op| op.name == word).unwrap_or(0);
-    let count = match operators.get(number) {
-        Some(op) => op.args.len(),
-        None => 0,
-    };
-    Ok(Pattern {
-        node: PatternNode::App(
-            OpId(u32::try_from(number).unwrap_or(0)),
-            taken(alloc, read, count)?,
-        ),
-    })
+    for (number, op) in described.operators.iter().enumerate() {
+        if op.0 == word {
+            let number = u32::try_from(number).unwrap_or(0);
+            let Some(args) = taken(alloc, read, op.1.len())? else {
+                return Ok(None);
+            };
+            return Ok(Some(Pattern {
+                node: PatternNode::App(OpId(number), args),
+            }));
+        }
+    }
+    Ok(None)
 }
 
 /// The pattern of words.
-pub fn pattern(alloc: Global, described: &Described, words: &[&str]) -> Result<Pattern, NoMemory> {
+pub fn pattern(
+    alloc: Global,
+    described: &Described,
+    words: &[&str],
+) -> Result<Option<Pattern>, NoMemory> {
     let mut read = Items::new(alloc);
     for word in words {
-        let next = pattern_of(alloc, described, &mut read, word)?;
+        let Some(next) = pattern_of(alloc, described, &mut read, word)? else {
+            return Ok(None);
+        };
         read.push(next)?;
     }
-    Ok(read.pop().unwrap_or(int_pattern(0)))
+    Ok(only(read))
 }
 
-fn fail() -> Strategy {
-    Strategy {
-        node: StrategyNode::Fail,
-    }
-}
-
-/// The last two strategies that were read.
-fn two(alloc: Global, read: &mut Items<Strategy>) -> Result<Items<Strategy>, NoMemory> {
-    let second = read.pop().unwrap_or(fail());
-    let first = read.pop().unwrap_or(fail());
-    let mut both = Items::new(alloc);
-    both.push(first)?;
-    both.push(second)?;
-    Ok(both)
-}
-
-/// The last strategy that was read.
-fn one(alloc: Global, read: &mut Items<Strategy>) -> Result<Boxed<Strategy>, NoMemory> {
-    Boxed::new(alloc, read.pop().unwrap_or(fail()))
-}
-
-/// The strategy of a name or a label.
-fn called(alloc: Global, described: &Described, word: &str) -> Result<StrategyNode, NoMemory> {
-    if let Some(number) = described.named.iter().position(|there| there.0 == word) {
-        return Ok(StrategyNode::Call(u32::try_from(number).unwrap_or(0)));
-    }
+/// The numbers of the rules with a label.
+fn labelled(alloc: Global, described: &Described, word: &str) -> Result<Items<u32>, NoMemory> {
     let mut numbers = Items::new(alloc);
     for (number, line) in described.rules.iter().enumerate() {
-        if line.label == word {
+        if line.0 == word {
             numbers.push(u32::try_from(number).unwrap_or(0))?;
         }
     }
-    Ok(StrategyNode::Label(numbers))
+    Ok(numbers)
 }
 
-/// The strategy of words, with each combination behind its two parts.
+/// The strategy that combines the last two.
+fn combined(
+    alloc: Global,
+    read: &mut Items<Strategy>,
+    word: &str,
+) -> Result<Option<StrategyNode>, NoMemory> {
+    let Some(arms) = taken(alloc, read, 2)? else {
+        return Ok(None);
+    };
+    let node = if word == ";" {
+        StrategyNode::Seq(arms)
+    } else if word == "dk" {
+        StrategyNode::All(arms)
+    } else {
+        StrategyNode::First {
+            one: word == "first one",
+            arms,
+        }
+    };
+    Ok(Some(node))
+}
+
+/// The strategy that repeats the last one.
+fn repeated(
+    alloc: Global,
+    described: &Described,
+    read: &mut Items<Strategy>,
+    word: &str,
+) -> Result<Option<StrategyNode>, NoMemory> {
+    let Some(inner) = read.pop() else {
+        return Ok(None);
+    };
+    let inner = Boxed::new(alloc, inner)?;
+    let node = if word == "repeat*" {
+        StrategyNode::Repeat(inner)
+    } else if word == "iterate*" {
+        StrategyNode::Iterate(inner)
+    } else if word == "iterate+" {
+        StrategyNode::IteratePlus(inner)
+    } else {
+        StrategyNode::Normalise(described.sort, inner)
+    };
+    Ok(Some(node))
+}
+
+/// The congruence of the operator with this name, over the strategies that were read last.
+fn congruence(
+    alloc: Global,
+    described: &Described,
+    read: &mut Items<Strategy>,
+    word: &str,
+) -> Result<Option<StrategyNode>, NoMemory> {
+    for (number, op) in described.operators.iter().enumerate() {
+        if op.0 == word && !op.1.is_empty() {
+            let number = OpId(u32::try_from(number).unwrap_or(0));
+            return match taken(alloc, read, op.1.len())? {
+                None => Ok(None),
+                Some(arms) => Ok(Some(StrategyNode::Cong(number, arms))),
+            };
+        }
+    }
+    Ok(None)
+}
+
+/// The strategy of a name: a parameter, a named strategy over those that were read last, a label, or a congruence.
+fn called(
+    alloc: Global,
+    described: &Described,
+    parameters: &[&str],
+    read: &mut Items<Strategy>,
+    word: &str,
+) -> Result<Option<StrategyNode>, NoMemory> {
+    if let Some(number) = parameters.iter().position(|there| *there == word) {
+        return Ok(Some(StrategyNode::Param(u32::try_from(number).unwrap_or(0))));
+    }
+    for (number, definition) in described.named.iter().enumerate() {
+        if definition.name == word {
+            let number = u32::try_from(number).unwrap_or(0);
+            return match taken(alloc, read, definition.parameters.len())? {
+                None => Ok(None),
+                Some(actuals) => Ok(Some(StrategyNode::Call(number, actuals))),
+            };
+        }
+    }
+    let numbers = labelled(alloc, described, word)?;
+    if numbers.is_empty() {
+        return congruence(alloc, described, read, word);
+    }
+    Ok(Some(StrategyNode::Label(numbers)))
+}
+
+fn is_among(words: &[&str], word: &str) -> bool {
+    words.iter().any(|there| *there == word)
+}
+
+/// The strategy that one word adds to what was read.
+fn step(
+    alloc: Global,
+    described: &Described,
+    parameters: &[&str],
+    read: &mut Items<Strategy>,
+    word: &str,
+) -> Result<Option<StrategyNode>, NoMemory> {
+    if word == "id" {
+        Ok(Some(StrategyNode::Id))
+    } else if word == "fail" {
+        Ok(Some(StrategyNode::Fail))
+    } else if is_among(&[";", "dk", "first", "first one"], word) {
+        combined(alloc, read, word)
+    } else if is_among(&["repeat*", "iterate*", "iterate+", "normalise"], word) {
+        repeated(alloc, described, read, word)
+    } else {
+        called(alloc, described, parameters, read, word)
+    }
+}
+
+/// The strategy of words in a body with these parameters.
+fn body(
+    alloc: Global,
+    described: &Described,
+    parameters: &[&str],
+    words: &[&str],
+) -> Result<Option<Strategy>, NoMemory> {
+    let mut read = Items::new(alloc);
+    for word in words {
+        let Some(node) = step(alloc, described, parameters, &mut read, word)? else {
+            return Ok(None);
+        };
+        read.push(Strategy { node })?;
+    }
+    Ok(only(read))
+}
+
+/// The strategy of words.
 pub fn strategy(
     alloc: Global,
     described: &Described,
     words: &[&str],
-) -> Result<Strategy, NoMemory> {
-    let mut read = Items::new(alloc);
-    for word in words {
-        let node = if *word == "id" {
-            StrategyNode::Id
-        } else if *word == "fail" {
-            StrategyNode::Fail
-        } else if *word == ";" {
-            StrategyNode::Seq(two(alloc, &mut read)?)
-        } else if *word == "dk" {
-            StrategyNode::All(two(alloc, &mut read)?)
-        } else if *word == "first" || *word == "first one" {
-            StrategyNode::First {
-                one: *word == "first one",
-                arms: two(alloc, &mut read)?,
-            }
-        } else if *word == "repeat*" {
-            StrategyNode::Repeat(one(alloc, &mut read)?)
-        } else if *word == "iterate*" {
-            StrategyNode::Iterate(one(alloc, &mut read)?)
-        } else if *word == "normalise" {
-            StrategyNode::Normalise(described.sort, one(alloc, &mut read)?)
-        } else {
-            called(alloc, described, word)?
-        };
-        read.push(Strategy { node })?;
-    }
-    Ok(read.pop().unwrap_or(fail()))
+) -> Result<Option<Strategy>, NoMemory> {
+    body(alloc, described, &[], words)
 }
 
-fn clause(alloc: Global, described: &Described, condition: &Condition) -> Result<Clause, NoMemory> {
+fn clause(
+    alloc: Global,
+    described: &Described,
+    condition: &Condition,
+) -> Result<Option<Clause>, NoMemory> {
     match condition {
-        Condition::If(test) => Ok(Clause::If(pattern(alloc, described, test)?)),
-        Condition::Where(left, by, of) => Ok(Clause::Where {
-            left: pattern(alloc, described, left)?,
-            by: strategy(alloc, described, by)?,
-            of: pattern(alloc, described, of)?,
-        }),
+        Condition::If(test) => match pattern(alloc, described, test)? {
+            None => Ok(None),
+            Some(test) => Ok(Some(Clause::If(test))),
+        },
+        Condition::Where(left, by, of) => {
+            let left = pattern(alloc, described, left)?;
+            let by = strategy(alloc, described, by)?;
+            let of = pattern(alloc, described, of)?;
+            match (left, by, of) {
+                (Some(left), Some(by), Some(of)) => Ok(Some(Clause::Where { left, by, of })),
+                _ => Ok(None),
+            }
+        }
     }
 }
 
-fn rule(alloc: Global, described: &Described, line: &Line) -> Result<Rule, NoMemory> {
+fn rule(alloc: Global, described: &Described, line: &Line) -> Result<Option<Rule>, NoMemory> {
     let mut clauses = Items::new(alloc);
-    for condition in line.conditions {
-        clauses.push(clause(alloc, described, condition)?)?;
+    for condition in line.3 {
+        let Some(next) = clause(alloc, described, condition)? else {
+            return Ok(None);
+        };
+        clauses.push(next)?;
     }
-    Ok(Rule {
-        label: if line.label.is_empty() {
-            None
-        } else {
-            Some(name(alloc, line.label)?)
-        },
-        sort: described.sort,
-        left: pattern(alloc, described, line.left)?,
-        right: pattern(alloc, described, line.right)?,
-        clauses,
-    })
+    let label = if line.0.is_empty() {
+        None
+    } else {
+        Some(name(alloc, line.0)?)
+    };
+    let left = pattern(alloc, described, line.1)?;
+    let right = pattern(alloc, described, line.2)?;
+    match (left, right) {
+        (Some(left), Some(right)) => Ok(Some(Rule {
+            label,
+            sort: described.sort,
+            left,
+            right,
+            clauses,
+        })),
+        _ => Ok(None),
+    }
+}
+
+fn named(
+    alloc: Global,
+    described: &Described,
+    definition: &Definition,
+) -> Result<Option<Named>, NoMemory> {
+    let parameters = definition.parameters;
+    match body(alloc, described, parameters, definition.body)? {
+        None => Ok(None),
+        Some(body) => Ok(Some(Named {
+            name: name(alloc, definition.name)?,
+            sort: described.sort,
+            parameters: u32::try_from(parameters.len()).unwrap_or(0),
+            body,
+        })),
+    }
 }
 
 /// The parts of a program that is described.
-pub fn parts(alloc: Global, described: &Described) -> Result<Parts, NoMemory> {
+fn parts(alloc: Global, described: &Described) -> Result<Option<Parts>, NoMemory> {
     let mut rules = Items::new(alloc);
     for line in described.rules {
-        rules.push(rule(alloc, described, line)?)?;
+        let Some(next) = rule(alloc, described, line)? else {
+            return Ok(None);
+        };
+        rules.push(next)?;
     }
     let mut named = Items::new(alloc);
-    for (called, body) in described.named {
-        named.push(Named {
-            name: name(alloc, called)?,
-            sort: described.sort,
-            body: strategy(alloc, described, body)?,
-        })?;
+    for there in described.named {
+        let Some(next) = named(alloc, described, there)? else {
+            return Ok(None);
+        };
+        named.push(next)?;
     }
-    Ok(Parts {
+    Ok(Some(Parts {
         signature: signature(alloc, described)?,
         rules,
         named,
-    })
+    }))
 }
 
-/// The program that is described, if it is valid.
+/// The program that is described, if each of its words is known and it is valid.
 pub fn program(alloc: Global, described: &Described) -> Result<Option<Program>, NoMemory> {
-    let parts = parts(alloc, described)?;
+    let Some(parts) = parts(alloc, described)? else {
+        return Ok(None);
+    };
     if parts.is_valid(alloc)? {
         let program = Program::new(alloc, parts.signature, parts.rules, parts.named)?;
         Ok(Some(program))

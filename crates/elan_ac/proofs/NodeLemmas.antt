@@ -10,12 +10,12 @@ use Rattle.elan_terms.specs.Trees.{case_term, int_term, app_term}
 use Rattle.elan_terms.specs.Term.{depth, greatest, is_ac, arms_under, ascending, node, canon}
 use Rattle.elan_terms.proofs.TreeLemmas.{case_term-app}
 use Rattle.elan_terms.proofs.TermLemmas.{depth-app, arms-int, arms-app}
-use Rattle.elan_laws.specs.Valid.{IsNumber, IsAllowed, IsValid}
-use Rattle.elan_laws.specs.Canonical.{IsSettled, IsCanonical}
-use Rattle.elan_laws.proofs.Lists.{AllOf, all_from, all_map, mapped_itself}
-use Rattle.elan_laws.proofs.Induction.{cases_term}
-use Rattle.elan_laws.proofs.NodeLemmas.{throughout_app, app_throughout}
-use Rattle.elan_laws.proofs.Sorting.{not_true}
+use Rattle.elan_terms.specs.Valid.{IsNumber, IsAllowed, IsValid}
+use Rattle.elan_terms.specs.Canonical.{IsSettled, IsCanonical}
+use Rattle.elan_terms.proofs.Lists.{AllOf, all_from, all_map, mapped_itself}
+use Rattle.elan_terms.proofs.Induction.{cases_term}
+use Rattle.elan_terms.proofs.NodeLemmas.{throughout_app, app_throughout}
+use Rattle.elan_terms.proofs.Sorting.{not_true}
 use Rattle.elan_laws.proofs.CanonicalLaws.{canon-of_app, canon-canonical, canonical-canon, canon-valid, node-ac, node-plain}
 use Rattle.elan_shared.specs.Nodes.{arguments}
 use Rattle.elan_shared.proofs.NodeLemmas.{arguments-app}

@@ -9,11 +9,11 @@ use Rattle.std.proofs.lemmas.List.Sums.{sum_by-cons}
 use Rattle.boxcar.specs.Table.{Where}
 use Rattle.elan_terms.specs.declared.tree.Term.{Term}
 use Rattle.elan_terms.specs.Term.{order, same, put_in, ascending}
-use Rattle.elan_laws.specs.Ascending.{NotAfter, Ascends}
+use Rattle.elan_terms.specs.Ascending.{NotAfter, Ascends}
 use Rattle.elan_laws.specs.Parts.{SomeOf, none, taken, left, times}
-use Rattle.elan_laws.proofs.Lists.{AllOf, Pairs, all_map, pairs_of, pairs_from}
-use Rattle.elan_laws.proofs.OrderLaws.{reversed}
-use Rattle.elan_laws.proofs.Sorting.{not_after_trans, ascending-pairs}
+use Rattle.elan_terms.proofs.Lists.{AllOf, Pairs, all_map, pairs_of, pairs_from}
+use Rattle.elan_terms.proofs.OrderLaws.{reversed}
+use Rattle.elan_terms.proofs.Sorting.{not_after_trans, ascending-pairs}
 use Rattle.elan_laws.proofs.TimesLaws.{some-exactly}
 use Rattle.elan_table.specs.Rows.{terms}
 

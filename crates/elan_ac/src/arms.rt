@@ -20,7 +20,8 @@ fn args_onto<N: Name, R: Wait>(
     many: u64,
 ) -> Result<(), NoMemory>
     requires { many ≡ length (arguments term.now.value) }
-    ensures { IfOk result (λ _. terms out.new.items ≡ terms out.old.items ++ arguments term.now.value) }
+    ensures { IfOk result (λ _.
+        terms out.new.items ≡ terms out.old.items ++ arguments term.now.value) }
 {
     for place in 0..many {
         out.push(table.arg(rt, term, place)?)?;
@@ -45,7 +46,8 @@ fn arms_onto<N: Name, R: Wait>(
     op: OpId,
     term: &TermRef<N>,
 ) -> Result<(), NoMemory>
-    ensures { IfOk result (λ _. terms out.new.items ≡ terms out.old.items ++ arms_under op term.now.value) }
+    ensures { IfOk result (λ _.
+        terms out.new.items ≡ terms out.old.items ++ arms_under op term.now.value) }
 {
     match table.node(term) {
         Node::App(f, many) => {
@@ -66,7 +68,8 @@ fn all_onto<N: Name, R: Wait>(
     op: OpId,
     args: &[TermRef<N>],
 ) -> Result<(), NoMemory>
-    ensures { IfOk result (λ _. terms out.new.items ≡ terms out.old.items ++ flat_map (arms_under op) (terms args.now)) }
+    ensures { IfOk result (λ _.
+        terms out.new.items ≡ terms out.old.items ++ flat_map (arms_under op) (terms args.now)) }
 {
     match args {
         [] => Ok(()),
@@ -96,7 +99,8 @@ pub(crate) fn ascending_arms<N: Name, R: Wait>(
     op: OpId,
     args: &[TermRef<N>],
 ) -> Result<Vec<TermRef<N>>, NoMemory>
-    ensures { IfOk result (λ v. terms v.items ≡ spec_ascending (flat_map (arms_under op) (terms args.now))) }
+    ensures { IfOk result (λ v.
+        terms v.items ≡ spec_ascending (flat_map (arms_under op) (terms args.now))) }
 {
     let mut rows = Vec::new(alloc);
     all_onto(rt, table, &mut rows, op, args)?;

@@ -3,8 +3,8 @@ ghost use Rattle.std.specs.Prelude.{◌≡◌, ◌<◌, ◌↔◌, IfOk, IsTrue}
 ghost use Rattle.std.specs.List.{All};
 ghost use Rattle.elan_terms.specs.Trees.{app_term};
 ghost use Rattle.elan_terms.specs.Term.{depth, node};
-ghost use Rattle.elan_laws.specs.Valid.{IsAllowed};
-ghost use Rattle.elan_laws.specs.Canonical.{IsSettled};
+ghost use Rattle.elan_terms.specs.Valid.{IsAllowed};
+ghost use Rattle.elan_terms.specs.Canonical.{IsSettled};
 ghost use Rattle.elan_table.specs.Rows.{MayStand, terms};
 ghost use Rattle.elan_ac.specs.Built.{IsBuilt};
 

@@ -41,7 +41,7 @@ fn blank(alloc: Global) -> Result<Blank, NoMemory> {
     }
     shapes.push(shape(alloc, 2, true)?)?;
     shapes.push(shape(alloc, 1, false)?)?;
-    Blank::new(alloc, Shapes { shapes, int: None })
+    Ok(Blank::new(Shapes { shapes, int: None }))
 }
 
 /// The node; one of arguments that do not fit is an error as well.
@@ -91,7 +91,7 @@ fn flat(alloc: Global) -> Result<Term, NoMemory> {
 
 // Whether (c U a) U b is a U b U c.
 fn nested<N: Name, R: Wait>(rt: &R, alloc: Global, blank: Blank) -> Result<bool, NoMemory>
-    requires { blank ≡ (N.shelves, N.shapes) }
+    requires { blank ≡ (N.root, N.shapes) }
 {
     let table = Table::<N>::new(alloc, blank.named::<N>(alloc)?)?;
     let none = Vec::new(alloc);
@@ -115,7 +115,7 @@ fn nested_unions_are_flat_and_ascend(rt: HostRuntime) -> Result<(), Fail> {
 
 // How deep the deepest node is, and whether one more is too deep.
 fn deepest<N: Name, R: Wait>(rt: &R, alloc: Global, blank: Blank) -> Result<(u32, bool), NoMemory>
-    requires { blank ≡ (N.shelves, N.shapes) }
+    requires { blank ≡ (N.root, N.shapes) }
 {
     let table = Table::<N>::new(alloc, blank.named::<N>(alloc)?)?;
     let none = Vec::new(alloc);

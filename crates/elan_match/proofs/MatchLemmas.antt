@@ -11,12 +11,12 @@ use Rattle.elan_terms.specs.declared.tree.Pattern.{Pattern}
 use Rattle.elan_terms.specs.declared.tree.Shapes.{Shapes}
 use Rattle.elan_terms.specs.Term.{order, canon}
 use Rattle.elan_terms.specs.Match.{occurrences, variables, bound, matches}
-use Rattle.elan_laws.specs.Valid.{IsValid}
-use Rattle.elan_laws.specs.Canonical.{IsCanonical}
+use Rattle.elan_terms.specs.Valid.{IsValid}
+use Rattle.elan_terms.specs.Canonical.{IsCanonical}
 use Rattle.elan_laws.specs.Parts.{IsPart}
 use Rattle.elan_laws.specs.Matching.{filled, MayHave, IsMatch}
-use Rattle.elan_laws.proofs.Lists.{AllOf, Pairs, In, in_of_contains, contains_of_in, pairs_of}
-use Rattle.elan_laws.proofs.OrderLaws.{order_total}
+use Rattle.elan_terms.proofs.Lists.{AllOf, Pairs, In, in_of_contains, contains_of_in, pairs_of}
+use Rattle.elan_terms.proofs.OrderLaws.{order_total}
 use Rattle.elan_laws.proofs.CanonicalLaws.{canonical-canon}
 use Rattle.elan_laws.proofs.MatchLaws.{matches-ascend, matches-exact, part-canonical, zip_weaker, zip_second}
 use Rattle.elan_table.specs.Rows.{MayStand}

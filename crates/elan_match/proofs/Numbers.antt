@@ -2,7 +2,7 @@
 use Rattle.std.proofs.Common.{◌≡◌, refl, sym, ℕ, suc, ◌==◌, ◌&&◌, eqb-true, nat_lt, Bool, true, false, List, [], ◌∷◌}
 use Rattle.elan_terms.specs.declared.tree.SortId.{SortId}
 use Rattle.elan_program.specs.Patterns.{are_numbered}
-use Rattle.elan_laws.proofs.Sorting.{not_true}
+use Rattle.elan_terms.proofs.Sorting.{not_true}
 use Rattle.elan_match.specs.Plain.{AreNumbered}
 
 both_are : (a b : Bool) → a && b ≡ true → (a ≡ true) × (b ≡ true)

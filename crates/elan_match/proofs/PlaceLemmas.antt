@@ -15,8 +15,8 @@ use Rattle.elan_terms.specs.Match.{occurrences}
 use Rattle.elan_terms.proofs.TreeLemmas.{case_term-app}
 use Rattle.elan_laws.specs.Parts.{IsPart, whole, inside}
 use Rattle.elan_laws.specs.Matching.{filled}
-use Rattle.elan_laws.proofs.Lists.{AllOf, In, contains_of_in, all_append, all_map}
-use Rattle.elan_laws.proofs.Induction.{cases_term}
+use Rattle.elan_terms.proofs.Lists.{AllOf, In, contains_of_in, all_append, all_map}
+use Rattle.elan_terms.proofs.Induction.{cases_term}
 use Rattle.elan_match.specs.Places.{both, side_by_side, at_variable, at_integer, at_operator, placed}
 
 -- ---- lists beside one another

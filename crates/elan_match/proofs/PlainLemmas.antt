@@ -10,10 +10,10 @@ use Rattle.elan_terms.specs.declared.tree.Shapes.{Shapes}
 use Rattle.elan_terms.specs.Trees.{int_term, app_term, fold_pattern_row}
 use Rattle.elan_terms.specs.Term.{is_ac}
 use Rattle.elan_terms.proofs.TreeLemmas.{fold_pattern-app}
-use Rattle.elan_laws.specs.Canonical.{IsCanonical}
+use Rattle.elan_terms.specs.Canonical.{IsCanonical}
 use Rattle.elan_laws.specs.Matching.{filled}
-use Rattle.elan_laws.proofs.Lists.{AllOf}
-use Rattle.elan_laws.proofs.Sorting.{not_true}
+use Rattle.elan_terms.proofs.Lists.{AllOf}
+use Rattle.elan_terms.proofs.Sorting.{not_true}
 use Rattle.elan_laws.proofs.CanonicalLaws.{app_canonical}
 use Rattle.elan_match.specs.Plain.{is_plain}
 

@@ -18,7 +18,7 @@ use Rattle.elan_terms.proofs.TreeLemmas.{fold_pattern-app, case_term-app}
 use Rattle.elan_terms.proofs.MatchLemmas.{sort_of-int, sort_of-app, occurrences-app}
 use Rattle.elan_terms.proofs.OrderLemmas.{same-equal, equal-same}
 use Rattle.elan_shared.specs.Nodes.{arguments}
-use Rattle.elan_laws.proofs.Induction.{cases_term}
+use Rattle.elan_terms.proofs.Induction.{cases_term}
 use Rattle.elan_table.specs.declared.node.Node.{Node}
 use Rattle.elan_table.specs.declared.node.Node.TheVariants.{Int, App}
 use Rattle.elan_table.specs.Nodes.{node_of}

@@ -10,9 +10,9 @@ use Rattle.elan_terms.specs.Trees.{int_term}
 use Rattle.elan_terms.specs.Term.{same, sort_of}
 use Rattle.elan_terms.specs.Match.{is_sort, has_sort, noted, new_in, bound}
 use Rattle.elan_terms.proofs.OrderLemmas.{same-equal, equal-same}
-use Rattle.elan_laws.specs.Valid.{HasSort}
-use Rattle.elan_laws.proofs.Lists.{AllOf, all_append}
-use Rattle.elan_laws.proofs.Sorting.{not_true}
+use Rattle.elan_terms.specs.Valid.{HasSort}
+use Rattle.elan_terms.proofs.Lists.{AllOf, all_append}
+use Rattle.elan_terms.proofs.Sorting.{not_true}
 use Rattle.elan_laws.proofs.CanonicalLaws.{true_or_false}
 use Rattle.elan_laws.proofs.MatchLaws.{is_sort-some}
 use Rattle.elan_match.specs.Plain.{AreNumbered}

@@ -45,7 +45,7 @@ fn blank(alloc: Global) -> Result<Blank, NoMemory> {
         shapes,
         int: Some(SortId(1)),
     };
-    Blank::new(alloc, shapes)
+    Ok(Blank::new(shapes))
 }
 
 /// A row of the application; one that the table does not take is an error as well.
@@ -208,7 +208,7 @@ fn answers<N: Name, R: Wait>(
     alloc: Global,
     blank: Blank,
 ) -> Result<(bool, bool, bool, bool), NoMemory>
-    requires { blank ≡ (N.shelves, N.shapes) }
+    requires { blank ≡ (N.root, N.shapes) }
 {
     let table = Table::<N>::new(alloc, blank.named::<N>(alloc)?)?;
     let none = Items::new(alloc);

@@ -9,11 +9,11 @@ use Rattle.elan_terms.specs.declared.tree.Term.{Term}
 use Rattle.elan_terms.specs.declared.tree.Shape.{Shape}
 use Rattle.elan_terms.specs.declared.tree.Shapes.{Shapes}
 use Rattle.elan_terms.specs.Term.{order, depth, is_ac}
-use Rattle.elan_laws.specs.Ascending.{NotAfter, Ascends}
-use Rattle.elan_laws.specs.Canonical.{is_headed, IsSettled}
-use Rattle.elan_laws.specs.Valid.{HasSort, Takes, IsAllowed}
-use Rattle.elan_laws.proofs.Lists.{AllOf, Pairs, all_of, all_from, pairs_of, pairs_from, all_map}
-use Rattle.elan_laws.proofs.Sorting.{not_true, not_after_trans}
+use Rattle.elan_terms.specs.Ascending.{NotAfter, Ascends}
+use Rattle.elan_terms.specs.Canonical.{is_headed, IsSettled}
+use Rattle.elan_terms.specs.Valid.{HasSort, Takes, IsAllowed}
+use Rattle.elan_terms.proofs.Lists.{AllOf, Pairs, all_of, all_from, pairs_of, pairs_from, all_map}
+use Rattle.elan_terms.proofs.Sorting.{not_true, not_after_trans}
 use Rattle.elan_table.specs.Rows.{terms}
 use Rattle.elan_table.specs.Nodes.{MayMake, RowsAscend}
 

@@ -7,10 +7,10 @@ use Rattle.elan_terms.specs.declared.tree.Shapes.{Shapes}
 use Rattle.elan_terms.specs.Trees.{app_term, int_term}
 use Rattle.elan_terms.specs.Term.{depth}
 use Rattle.elan_terms.proofs.TermLemmas.{depth-int}
-use Rattle.elan_laws.specs.Valid.{IsNumber, IsAllowed, IsValid}
-use Rattle.elan_laws.specs.Canonical.{IsSettled, IsCanonical}
-use Rattle.elan_laws.proofs.Lists.{AllOf}
-use Rattle.elan_laws.proofs.NodeLemmas.{app_throughout}
+use Rattle.elan_terms.specs.Valid.{IsNumber, IsAllowed, IsValid}
+use Rattle.elan_terms.specs.Canonical.{IsSettled, IsCanonical}
+use Rattle.elan_terms.proofs.Lists.{AllOf}
+use Rattle.elan_terms.proofs.NodeLemmas.{app_throughout}
 use Rattle.elan_table.specs.Rows.{MayStand, terms}
 use Rattle.elan_table.specs.Nodes.{MayMake}
 use Rattle.elan_table.proofs.Depths.{shallow}

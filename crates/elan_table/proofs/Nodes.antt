@@ -6,7 +6,7 @@ use Rattle.elan_terms.specs.declared.tree.OpId.{OpId}
 use Rattle.elan_terms.specs.declared.tree.Term.{Term}
 use Rattle.elan_terms.specs.Trees.{int_term, app_term}
 use Rattle.elan_terms.proofs.TreeLemmas.{case_term-app}
-use Rattle.elan_laws.proofs.Induction.{cases_term}
+use Rattle.elan_terms.proofs.Induction.{cases_term}
 use Rattle.elan_shared.specs.Nodes.{arguments}
 use Rattle.elan_shared.proofs.NodeLemmas.{arguments-app}
 use Rattle.elan_table.specs.declared.node.Node.{Node}

@@ -7,9 +7,9 @@ use Rattle.elan_terms.specs.declared.tree.Term.{Term}
 use Rattle.elan_terms.specs.declared.tree.Shapes.{Shapes}
 use Rattle.elan_terms.specs.Trees.{case_term}
 use Rattle.elan_terms.specs.Term.{depth}
-use Rattle.elan_laws.specs.Valid.{IsAllowed}
-use Rattle.elan_laws.specs.Canonical.{IsSettled}
-use Rattle.elan_laws.specs.Ascending.{NotAfter}
+use Rattle.elan_terms.specs.Valid.{IsAllowed}
+use Rattle.elan_terms.specs.Canonical.{IsSettled}
+use Rattle.elan_terms.specs.Ascending.{NotAfter}
 use Rattle.elan_table.specs.declared.node.Node.{Node}
 use Rattle.elan_table.specs.declared.node.Node.TheVariants.{Int, App}
 

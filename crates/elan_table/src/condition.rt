@@ -2,15 +2,14 @@
 ghost use Rattle.std.specs.Prelude.{◌≡◌, ◌≤◌, ◌<◌, ◌↔◌, length, slice_get, IsTrue, IsFalse};
 ghost use Rattle.std.specs.List.{All, AllZip};
 ghost use Rattle.elan_terms.specs.Term.{sort_of as spec_sort, shape_sort, depth};
-ghost use Rattle.elan_laws.specs.Canonical.{is_headed as spec_headed, IsSettled};
-ghost use Rattle.elan_laws.specs.Valid.{HasSort, Takes, IsAllowed};
+ghost use Rattle.elan_terms.specs.Canonical.{is_headed as spec_headed, IsSettled};
+ghost use Rattle.elan_terms.specs.Valid.{HasSort, Takes, IsAllowed};
 ghost use Rattle.elan_table.specs.Rows.{terms};
 ghost use Rattle.elan_table.specs.Nodes.{MayMake, RowsAscend};
 
 use crate::name::Name;
-use crate::row::TermRef;
+use crate::row::{Row, TermRef, Top};
 use crate::rows::Rows;
-use elan_shared::{Node, SharedTerm};
 use elan_terms::{OpId, Shape, Shapes, SortId};
 
 fn op_sort(shapes: &Shapes, op: OpId) -> Option<SortId>
@@ -23,16 +22,16 @@ fn op_sort(shapes: &Shapes, op: OpId) -> Option<SortId>
 }
 
 /// The sort of a term, or none where the shapes do not have it.
-fn sort_of(shapes: &Shapes, term: &SharedTerm) -> Option<SortId>
+fn sort_of<N: Name>(shapes: &Shapes, term: &Row<N>) -> Option<SortId>
     ensures { result ≡ spec_sort shapes.now term.now }
 {
     match term.node() {
-        Node::Int(_) => shapes.int,
-        Node::App(op, _) => op_sort(shapes, op),
+        Top::Int(_) => shapes.int,
+        Top::App(op, _) => op_sort(shapes, op),
     }
 }
 
-fn has_sort(shapes: &Shapes, term: &SharedTerm, sort: SortId) -> bool
+fn has_sort<N: Name>(shapes: &Shapes, term: &Row<N>, sort: SortId) -> bool
     ensures { IsTrue result ↔ HasSort shapes.now term.now sort }
 {
     match sort_of(shapes, term) {
@@ -48,7 +47,7 @@ impl<N: Name> Rows<N> {
         match rows {
             [] => true,
             [first, rest @ ..] => {
-                has_sort(self.shapes(), self.term(first), sort) && self.have_sort(rest, sort)
+                has_sort(self.shapes(), self.row(first), sort) && self.have_sort(rest, sort)
             }
         }
     }
@@ -61,7 +60,7 @@ impl<N: Name> Rows<N> {
             [first, rest @ ..] => match sorts {
                 [] => false,
                 [sort, more @ ..] => {
-                    has_sort(self.shapes(), self.term(first), *sort) && self.have_sorts(rest, more)
+                    has_sort(self.shapes(), self.row(first), *sort) && self.have_sorts(rest, more)
                 }
             },
         }
@@ -90,9 +89,9 @@ impl<N: Name> Rows<N> {
     fn is_headed(&self, op: OpId, row: &TermRef<N>) -> bool
         ensures { result ≡ spec_headed op row.now.value }
     {
-        match self.term(row).node() {
-            Node::Int(_) => false,
-            Node::App(f, _) => op.0 == f.0,
+        match self.row(row).node() {
+            Top::Int(_) => false,
+            Top::App(f, _) => op.0 == f.0,
         }
     }
 
@@ -129,12 +128,13 @@ impl<N: Name> Rows<N> {
     {
         match rows {
             [] => true,
-            [first, rest @ ..] => self.term(first).depth() < 2000 && self.are_shallow(rest),
+            [first, rest @ ..] => self.row(first).depth() < 2000 && self.are_shallow(rest),
         }
     }
 
-    /// Whether the table or a shard takes the application of the operator to the terms of these rows:
-    /// they fit the operator, the application is canonical, and each of them is less than 2,000 deep.
+    /// Whether the table or a shard takes the application of the operator to the terms of these
+    /// rows: they fit the operator, the application is canonical, and each of them is less than
+    /// 2,000 deep.
     pub fn takes(&self, op: OpId, rows: &[TermRef<N>]) -> bool
         ensures { IsTrue result ↔ MayMake N.shapes op (terms rows.now) }
     {

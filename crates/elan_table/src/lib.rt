@@ -3,19 +3,21 @@
 
 mod application;
 mod condition;
+mod copies;
 mod name;
 mod node;
 mod order;
 mod row;
 mod rows;
 mod shard;
+mod spot;
 mod table;
 #[cfg(test)]
 mod tests;
 
 pub use name::Name;
 pub use node::Node;
-pub use row::TermRef;
+pub use row::{TermRef, Top};
 pub use rows::{Blank, Rows};
 pub use shard::Shard;
 pub use table::Table;

@@ -2,12 +2,10 @@
 ghost use Rattle.std.specs.Prelude.{◌≡◌};
 ghost use Rattle.std.specs.Cmp.Lexicographic.{slice_cmp};
 ghost use Rattle.elan_terms.specs.Term as spec;
-ghost use Rattle.elan_terms.specs.Trees.{app_term};
 ghost use Rattle.elan_table.specs.Rows.{terms};
 
-use crate::application::Application;
 use crate::name::Name;
-use crate::row::TermRef;
+use crate::row::{TermRef, Top};
 use crate::rows::Rows;
 use std::cmp::Ordering;
 
@@ -18,26 +16,28 @@ impl<N: Name> Rows<N> {
         ensures { result ≡ spec.order a.now.value b.now.value }
     {
         if a.number() == b.number() {
-            self.agrees(a, b);
+            a.agrees(b);
             Ordering::Equal
         } else {
-            match (self.application(a), self.application(b)) {
-                (Some(x), Some(y)) => self.compare_applications(x, y),
-                _ => elan_shared::compare(self.term(a), self.term(b)),
-            }
+            self.compare_nodes(a, b)
         }
     }
 
     #[cycle(compare)]
-    fn compare_applications(&self, x: &Application<N>, y: &Application<N>) -> Ordering
-        ensures { result ≡ spec.order (app_term x.now.op (terms x.now.args)) (app_term y.now.op (terms y.now.args)) }
+    fn compare_nodes(&self, a: &TermRef<N>, b: &TermRef<N>) -> Ordering
+        ensures { result ≡ spec.order a.now.value b.now.value }
     {
-        match x.op().0.cmp(&y.op().0) {
-            Ordering::Equal => match x.args().len().cmp(&y.args().len()) {
-                Ordering::Equal => self.compare_all(x.args(), y.args()),
+        match (self.row(a).node(), self.row(b).node()) {
+            (Top::Int(x), Top::Int(y)) => x.cmp(&y),
+            (Top::Int(_), Top::App(_, _)) => Ordering::Less,
+            (Top::App(_, _), Top::Int(_)) => Ordering::Greater,
+            (Top::App(f, xs), Top::App(g, ys)) => match f.0.cmp(&g.0) {
+                Ordering::Equal => match xs.len().cmp(&ys.len()) {
+                    Ordering::Equal => self.compare_all(xs, ys),
+                    unequal => unequal,
+                },
                 unequal => unequal,
             },
-            unequal => unequal,
         }
     }
 

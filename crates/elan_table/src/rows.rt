@@ -1,93 +1,69 @@
-//! The rows of a table under its name.
-ghost use Rattle.std.specs.Prelude.{◌≡◌, ◌++◌, ◌<◌, map, length, IfOk, IfSome, Some, slice_get};
-ghost use Rattle.elan_terms.specs.Trees.{app_term};
-ghost use Rattle.elan_shared.specs.Nodes.{arguments};
-ghost use Rattle.elan_table.specs.Rows.{MayStand, terms};
+//! The rows of a table.
+ghost use Rattle.std.specs.Prelude.{◌≡◌, ◌<◌, ◌%◌, length, map, IfOk};
+ghost use Rattle.boxcar.specs.Table.{id_at};
+ghost use Rattle.elan_table.specs.Places.{ids_of};
+ghost use Rattle.elan_table.specs.Rows.{MayStand};
 
 use crate::NoMemory;
-use crate::application::Application;
 use crate::name::Name;
-use crate::row::TermRef;
-use boxcar::Vec;
-use elan_shared::SharedTerm;
+use crate::row::{Row, TermRef};
+use crate::spot::{Any, Long, Spot, of_rows, of_terms};
+use boxcar::slot::{OnceSlot, SlotRule, Written};
+use boxcar::tag::{Names, Tag};
 use elan_terms::Shapes;
-use sqlite_items::Items;
 use std::alloc::{AllocError, Global};
-use std::marker::{Model, PhantomData};
-use std::sync::{Arc, Wait};
+use std::marker::Model;
+use std::sync::Wait;
+use std::sync::atomic::{AtomicU64, Ordering};
 
-/// The shared list of rows, and beside it the applications that were made. What was pushed stays.
+// How many rows a chunk has, and how many chunks there may be.
+const CHUNK: usize = 32768;
+
+const CHUNKS: usize = 16384;
+
+// How many numbers are given out at once.
+const RUN: u64 = 128;
+
+/// The rows of the table of this name.
 #[derive(Drop)]
 pub struct Rows<N: Name> {
-    list: Vec<SharedTerm>,
-    made: Vec<Arc<Application<N>>>,
+    chunks: Vec<OnceSlot<Vec<OnceSlot<Row<N>, Any>>, Long>>,
+    root: Written<Tag>,
+    next: AtomicU64,
     shapes: Shapes,
-    of: PhantomData<N>,
+    alloc: Global,
+    ghost rooted: { root.of ≡ N.root },
+    ghost told: { root.value.numbers ≡ ids_of chunks.items },
+    ghost many: { length chunks.items ≡ 16384 },
+    ghost served: { shapes ≡ N.shapes },
 }
 
-impl<N: Name> Model for Rows<N> {
-    ghost use Rattle.std.specs.Prelude.{◌≡◌};
-    ghost use Rattle.boxcar.specs.Table.{Shelves, shelves_coded};
-
-    ghost Value = { Shelves };
-
-    ghost coded = { shelves_coded };
-
-    ghost view = { λ r. r.list };
-
-    ghost invariant = { λ r. (r.list ≡ N.shelves) × (r.shapes ≡ N.shapes) };
+/// So many free slots.
+fn free<T: Drop, Q: SlotRule<T>>(
+    alloc: Global,
+    many: usize,
+) -> Result<Vec<OnceSlot<T, Q>>, NoMemory>
+    ensures { IfOk result (λ v. length v.items ≡ many) }
+{
+    let mut slots = Vec::with_capacity(alloc, many)?;
+    let tag = Tag::empty();
+    while slots.len() < many {
+        slots.push(OnceSlot::new(&tag))?;
+    }
+    Ok(slots)
 }
 
 impl<N: Name> Rows<N> {
-    /// A row for this term, whose arguments have no rows that are known.
-    pub(crate) fn push<R: Wait>(&self, rt: &R, term: SharedTerm) -> Result<TermRef<N>, NoMemory>
-        requires { MayStand N.shapes term }
-        ensures { IfOk result (λ t. t.value ≡ term) }
+    /// What a row holds.
+    pub(crate) fn row(&self, term: &TermRef<N>) -> &Row<N>
+        ensures { result.now ≡ term.now.value }
     {
-        match self.list.push_shown(rt, term) {
-            Ok(pushed) => Ok(TermRef::new(pushed, u64::MAX)),
-            Err(_) => Err(AllocError),
-        }
-    }
-
-    /// Adds an application to those that were made, and answers where it stands.
-    pub(crate) fn add<R: Wait>(
-        &self,
-        rt: &R,
-        application: Arc<Application<N>>,
-    ) -> Result<u64, NoMemory> {
-        match self.made.push(rt, application) {
-            Ok(at) => Ok(at as u64),
-            Err(_) => Err(AllocError),
-        }
-    }
-
-    /// What a row means.
-    pub fn term(&self, row: &TermRef<N>) -> &SharedTerm
-        ensures { result.now ≡ row.now.value }
-    {
-        self.list.value(row.pushed())
-    }
-
-    /// The application of a row, where it was made from the rows of its arguments.
-    pub(crate) fn application(&self, row: &TermRef<N>) -> Option<&Application<N>>
-        ensures { IfSome result (λ a. row.now.value ≡ app_term a.now.op (terms a.now.args)) }
-    {
-        match self.made.get(row.place() as usize) {
-            None => None,
-            Some(made) => self.if_own(made, row),
-        }
-    }
-
-    fn if_own<'a>(&self, made: &'a Application<N>, row: &TermRef<N>) -> Option<&'a Application<N>>
-        ensures { IfSome result (λ a. row.now.value ≡ app_term a.now.op (terms a.now.args)) }
-    {
-        if made.own().number() == row.number() {
-            self.agrees(made.own(), row);
-            Some(made)
-        } else {
-            None
-        }
+        let (root, spot) = term.place();
+        self.root.agrees(root);
+        let spot = of_rows::<N>(spot);
+        let number = term.number() as usize;
+        let chunk = self.chunks[number / CHUNK].value(&spot.chunk);
+        chunk[number % CHUNK].value(&spot.item)
     }
 
     /// The operators of the terms.
@@ -97,119 +73,136 @@ impl<N: Name> Rows<N> {
         &self.shapes
     }
 
-    /// Two rows of one number mean one term.
-    pub fn agrees(&self, a: &TermRef<N>, b: &TermRef<N>)
-        requires { a.now.index ≡ b.now.index }
-        ensures { a.now.value ≡ b.now.value }
-    {
-        self.list.agrees(a.pushed(), b.pushed());
+    /// The first of the next 128 numbers, which no other call answers.
+    pub(crate) fn run(&self) -> u64 {
+        self.next.fetch_add(RUN, Ordering::SeqCst)
     }
 
-    /// Rows of equal numbers mean equal terms.
-    pub(crate) fn agree_all(&self, some: &[TermRef<N>], others: &[TermRef<N>])
-        requires { map (λ t. t.index) some.now ≡ map (λ t. t.index) others.now }
-        ensures { terms some.now ≡ terms others.now }
+    #[cold]
+    fn make(&self, place: usize) -> Result<(), NoMemory>
+        requires { place < 16384 }
     {
-        match some {
-            [] => {}
-            [a, some @ ..] => match others {
-                [] => {}
-                [b, others @ ..] => {
-                    self.agrees(a, b);
-                    self.agree_all(some, others);
-                }
-            },
-        }
+        let slots = free(self.alloc, CHUNK)?;
+        drop(self.chunks[place].set_written(slots));
+        Ok(())
     }
 
-    /// Puts what the rows mean to the end, in order.
-    pub(crate) fn terms_onto(
+    /// The chunk at that place of the directory; it is made where it is not there. It may wait for
+    /// a thread that puts it there.
+    fn laid<R: Wait>(
         &self,
-        out: &mut Items<SharedTerm>,
-        rows: &[TermRef<N>],
-    ) -> Result<(), NoMemory>
-        ensures { IfOk result (λ _. out.new ≡ out.old ++ terms rows.now) }
+        rt: &R,
+        place: usize,
+    ) -> Result<Written<Vec<OnceSlot<Row<N>, Any>>>, NoMemory>
+        requires { place < 16384 }
+        ensures { IfOk result (λ w. w.of ≡ id_at self.now.chunks.items place) }
     {
-        match rows {
-            [] => Ok(()),
-            [first, rest @ ..] => {
-                out.push(self.term(first).again()?)?;
-                self.terms_onto(out, rest)
+        if let Some(chunk) = self.chunks[place].witness() {
+            return Ok(chunk);
+        }
+        self.make(place)?;
+        for _ in rt.forever() {
+            if let Some(chunk) = self.chunks[place].witness() {
+                return Ok(chunk);
+            }
+            std::hint::spin_loop();
+        }
+        unreachable!()
+    }
+
+    fn put_at<R: Wait>(&self, rt: &R, number: u32, row: Row<N>) -> Result<TermRef<N>, NoMemory>
+        requires low { number < 536870912 }
+        requires term { MayStand N.shapes row }
+        ensures { IfOk result (λ t. t.value ≡ row) }
+    {
+        let place = number as usize / CHUNK;
+        let chunk = self.laid(rt, place)?;
+        let slot = &self.chunks[place].value(&chunk)[number as usize % CHUNK];
+        match slot.set_written(row) {
+            Err(_) => Err(AllocError),
+            Ok(item) => {
+                let spot = Spot { chunk, item };
+                Ok(TermRef::new(number, self.root.again(), of_terms::<N>(&spot).again()))
             }
         }
     }
 
-    /// A row of the argument at that place.
-    pub(crate) fn arg<R: Wait>(
+    /// A row of this number, where there is none yet.
+    pub(crate) fn put<R: Wait>(
         &self,
         rt: &R,
-        row: &TermRef<N>,
-        place: u64,
+        number: u64,
+        row: Row<N>,
     ) -> Result<TermRef<N>, NoMemory>
-        requires { place < length (arguments row.now.value) }
-        ensures { IfOk result (λ t. slice_get (arguments row.now.value) place ≡ Some t.value) }
+        requires { MayStand N.shapes row }
+        ensures { IfOk result (λ t. t.value ≡ row) }
     {
-        match self.application(row) {
-            None => self.new_arg(rt, row, place),
-            Some(application) => Ok(application.arg(place)),
-        }
-    }
-
-    /// A new row of the argument at that place.
-    #[tactic(auto, using(crate::proofs::Arguments::stands))]
-    fn new_arg<R: Wait>(&self, rt: &R, row: &TermRef<N>, place: u64) -> Result<TermRef<N>, NoMemory>
-        requires { place < length (arguments row.now.value) }
-        ensures { IfOk result (λ t. slice_get (arguments row.now.value) place ≡ Some t.value) }
-    {
-        row.known();
-        match self.term(row).arg(place as usize) {
-            None => unreachable!(),
-            Some(arg) => self.push(rt, arg.again()?),
+        if number < 536_870_912 {
+            self.put_at(rt, number as u32, row)
+        } else {
+            Err(AllocError)
         }
     }
 }
 
-/// Rows that have no name yet: there is none. Contracts see the list and the operators.
+/// Rows that have no name yet: there is none. Contracts see the slot that will tell where they are,
+/// and the operators.
 #[derive(Drop)]
 pub struct Blank {
-    list: Vec<SharedTerm>,
+    root: OnceSlot<Tag, Any>,
     shapes: Shapes,
 }
 
 impl Model for Blank {
+    ghost use Rattle.std.specs.Prelude.{ℕ};
     ghost use Rattle.std.specs.Coded.{codes};
-    ghost use base.Stored.{coded×};
-    ghost use Rattle.boxcar.specs.Table.{Shelves, shelves_coded};
+    ghost use base.Stored.{coded×, coded_ℕ};
     ghost use Rattle.elan_terms.specs.declared.tree.Shapes.{Shapes};
     ghost use Rattle.elan_terms.specs.contracts.tree.Shapes as operators;
 
-    ghost Value = { Shelves × Shapes };
+    ghost Value = { ℕ × Shapes };
 
-    ghost coded = { coded× shelves_coded (Prim.hlevel (codes, operators.the_row.coded)) };
+    ghost coded = { coded× coded_ℕ (Prim.hlevel (codes, operators.the_row.coded)) };
 
-    ghost view = { λ r. (r.list, r.shapes) };
+    ghost view = { λ b. (b.root.id, b.shapes) };
+}
+
+/// How the slots of a directory are told.
+struct Slots;
+
+impl<T, Q: SlotRule<T>> Names<Vec<OnceSlot<T, Q>>> for Slots {
+    ghost use Rattle.elan_table.specs.Places.{ids_of};
+
+    ghost numbers = { λ v. ids_of v.items };
 }
 
 impl Blank {
-    /// No row, for terms over these operators.
-    pub fn new(alloc: Global, shapes: Shapes) -> Result<Blank, NoMemory>
-        ensures { IfOk result (λ b. b.1 ≡ shapes) }
+    /// No row.
+    pub fn new(shapes: Shapes) -> Blank
+        ensures { result.1 ≡ shapes }
     {
-        Ok(Blank {
-            list: Vec::new(alloc)?,
+        Blank {
+            root: OnceSlot::new(&Tag::empty()),
             shapes,
-        })
+        }
     }
 
     /// The rows under the name that stands for them.
     pub fn named<N: Name>(self, alloc: Global) -> Result<Rows<N>, NoMemory>
-        requires { self ≡ (N.shelves, N.shapes) }
+        requires { self ≡ (N.root, N.shapes) }
     {
-        Ok(Rows {
-            list: self.list,
-            made: Vec::new(alloc)?,
-            shapes: self.shapes,
-            of: PhantomData,
-        })
+        let chunks: Vec<OnceSlot<Vec<OnceSlot<Row<N>, Any>>, Long>> = free(alloc, CHUNKS)?;
+        let tag = Tag::of::<Vec<OnceSlot<Vec<OnceSlot<Row<N>, Any>>, Long>>, Slots>(&chunks);
+        let Blank { root, shapes } = self;
+        match root.set_written(tag) {
+            Err(_) => Err(AllocError),
+            Ok(root) => Ok(Rows {
+                chunks,
+                root,
+                next: AtomicU64::new(0),
+                shapes,
+                alloc,
+            }),
+        }
     }
 }

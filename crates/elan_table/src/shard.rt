@@ -1,152 +1,90 @@
 //! What a shard holds.
-ghost use Rattle.std.specs.Prelude.{◌≡◌, ◌++◌, [], ◌∷◌, map, IfOk, IfSome, OnOk, OnErr, None};
+ghost use Rattle.std.specs.Prelude.{◌≡◌, ◌++◌, [], ◌∷◌, ◌≤◌, map, None, Some};
+ghost use Rattle.std.specs.Prelude.{IfOk, IfSome, OnOk, OnErr};
+ghost use Rattle.std.specs.List.{All};
 ghost use Rattle.elan_terms.specs.Trees.{app_term, int_term};
-ghost use Rattle.elan_laws.specs.Valid.{IsNumber};
-ghost use Rattle.elan_table.specs.Rows.{node_key, terms};
+ghost use Rattle.elan_terms.specs.Term.{depth, greatest as spec_greatest};
+ghost use Rattle.elan_terms.specs.Valid.{IsNumber};
+ghost use Rattle.elan_table.specs.Shown.{op_of, listed, key_of};
+ghost use Rattle.elan_table.specs.Rows.{MayStand, node_key, terms};
 ghost use Rattle.elan_table.specs.Nodes.{MayMake};
+ghost use Rattle.elan_table.specs.Sets.{terms_prop};
 
 use crate::NoMemory;
 use crate::application::Application;
 use crate::name::Name;
-use crate::row::{TermRef, all_known};
+use crate::row::{Row, TermRef, agree_all, all_known};
 use crate::rows::Rows;
-use elan_shared::SharedTerm;
 use elan_terms::OpId;
 use indexmap::IndexMap;
-use sqlite_items::Items;
 use std::alloc::{AllocError, Global};
-use std::marker::Model;
-use std::sync::{Arc, Wait};
+use std::sync::Wait;
 
-/// An application that was made, and where it stands among them.
+/// The numbers that a shard may give out next.
 #[derive(Drop)]
-pub struct Kept<N: Name> {
-    pub made: Arc<Application<N>>,
-    pub at: u64,
+struct Numbers {
+    next: u64,
+    left: u64,
 }
 
-/// Applications that were made, by operator and the numbers of the rows of their arguments, and the
-/// rows of integers.
+/// Rows of applications by their nodes, and of integers.
 #[derive(Drop)]
 pub struct Shard<N: Name> {
-    kept: IndexMap<Vec<u64>, Kept<N>>,
-    whole: IndexMap<i64, Integer<N>>,
-    pub ghost keys: { map (λ e. e.0.items) kept.entries ≡ map (λ e. node_key e.1.made.value.op e.1.made.value.args) kept.entries },
-    pub ghost values: { map (λ e. e.0) whole.entries ≡ map (λ e. e.1.0) whole.entries },
+    kept: IndexMap<Application<N>, TermRef<N>>,
+    whole: IndexMap<i64, TermRef<N>>,
+    numbers: Numbers,
+    pub ghost keys: { map (λ e. app_term (op_of e.0) (terms (listed e.0))) kept.entries
+        ≡ map (λ e. e.1.value) kept.entries } by { terms_prop _ _ },
+    pub ghost values: { map (λ e. int_term e.0) whole.entries
+        ≡ map (λ e. e.1.value) whole.entries } by { terms_prop _ _ },
 }
 
-/// The row of an integer. Contracts see the integer and the number of the row.
-#[derive(Drop)]
-pub struct Integer<N: Name> {
-    own: TermRef<N>,
-    value: i64,
-}
-
-impl<N: Name> Model for Integer<N> {
-    ghost use Rattle.std.specs.Prelude.{◌≡◌, ℕ, ℤ};
-    ghost use Rattle.elan_terms.specs.Trees.{int_term};
-
-    ghost Value = { ℤ × ℕ };
-
-    ghost view = { λ i. (i.value, i.own.index) };
-
-    ghost invariant = { λ i. i.own.value ≡ int_term i.value };
-}
-
-impl<N: Name> Integer<N> {
-    fn row(&self) -> TermRef<N>
-        ensures term { result.value ≡ int_term self.now.0 }
-        ensures number { result.index ≡ self.now.1 }
-    {
-        self.own.again()
+impl Numbers {
+    fn next<N: Name>(&mut self, rows: &Rows<N>) -> u64 {
+        if self.left == 0 {
+            self.next = rows.run();
+            self.left = 128;
+        }
+        let number = self.next;
+        self.next = number.wrapping_add(1);
+        self.left = self.left.saturating_sub(1);
+        number
     }
 }
 
-impl<N: Name> Kept<N> {
-    /// The row of an application of this operator to rows of these numbers.
-    fn row_for(&self, rows: &Rows<N>, op: OpId, args: &[TermRef<N>]) -> TermRef<N>
-        requires { node_key self.now.made.value.op self.now.made.value.args ≡ node_key op args.now }
-        ensures term { result.value ≡ app_term op (terms args.now) }
-        ensures number { result.index ≡ self.now.made.value.own.index }
-    {
-        rows.agree_all(self.made.args(), args);
-        self.made.own().placed(self.at)
-    }
-}
-
-fn numbers_onto<N: Name>(out: &mut Vec<u64>, args: &[TermRef<N>]) -> Result<(), NoMemory>
-    ensures { IfOk result (λ _. out.new.items ≡ out.old.items ++ map (λ t. t.index) args.now) }
+/// The greatest depth of these, or 0.
+#[tactic(auto, using(elan_terms::proofs::TermLemmas::depths))]
+fn greatest<N: Name>(rows: &Rows<N>, args: &[TermRef<N>]) -> u32
+    requires { All (λ t. depth t.value ≤ 2000) args.now }
+    ensures { result ≡ spec_greatest (map depth (terms args.now)) }
 {
     match args {
-        [] => Ok(()),
-        [first, rest @ ..] => {
-            out.push(first.number())?;
-            numbers_onto(out, rest)
-        }
+        [] => 0,
+        [first, rest @ ..] => rows.row(first).depth().max(greatest(rows, rest)),
     }
 }
 
-/// The node of an application.
-fn node_of<N: Name>(alloc: Global, op: OpId, args: &[TermRef<N>]) -> Result<Vec<u64>, NoMemory>
-    ensures { IfOk result (λ v. v.items ≡ node_key op args.now) }
-{
-    let mut out = Vec::new(alloc);
-    out.push(u64::from(op.0))?;
-    numbers_onto(&mut out, args)?;
-    Ok(out)
-}
-
-fn copies_onto<N: Name>(out: &mut Items<TermRef<N>>, args: &[TermRef<N>]) -> Result<(), NoMemory>
-    ensures { IfOk result (λ _. out.new ≡ out.old ++ args.now) }
-{
-    match args {
-        [] => Ok(()),
-        [first, rest @ ..] => {
-            out.push(first.again())?;
-            copies_onto(out, rest)
-        }
-    }
-}
-
-/// A new row of the application.
+/// What stands in a row of the application.
 #[tactic(auto, using(crate::proofs::Made::stands))]
-fn new_row<N: Name, R: Wait>(
-    rt: &R,
+fn row_of<N: Name>(
     alloc: Global,
     rows: &Rows<N>,
     op: OpId,
     args: &[TermRef<N>],
-) -> Result<TermRef<N>, NoMemory>
+) -> Result<Row<N>, NoMemory>
     requires { MayMake N.shapes op (terms args.now) }
-    ensures { IfOk result (λ t. t.value ≡ app_term op (terms args.now)) }
+    ensures term { IfOk result (λ r. r ≡ app_term op (terms args.now)) }
+    ensures stands { IfOk result (λ r. MayStand N.shapes r) }
 {
     all_known(args);
-    let mut arguments = Items::new(alloc);
-    rows.terms_onto(&mut arguments, args)?;
-    rows.push(rt, SharedTerm::app(alloc, op, arguments)?)
-}
-
-/// The application, made in a new row.
-fn make<N: Name, R: Wait>(
-    rt: &R,
-    alloc: Global,
-    rows: &Rows<N>,
-    op: OpId,
-    args: &[TermRef<N>],
-) -> Result<Kept<N>, NoMemory>
-    requires { MayMake N.shapes op (terms args.now) }
-    ensures { IfOk result (λ k. node_key k.made.value.op k.made.value.args ≡ node_key op args.now) }
-{
-    let own = new_row(rt, alloc, rows, op, args)?;
-    let mut copies = Items::new(alloc);
-    copies_onto(&mut copies, args)?;
-    let made = Arc::new(alloc, Application::new(own, op, copies))?;
-    let at = rows.add(rt, Arc::try_clone(&made)?)?;
-    Ok(Kept { made, at })
+    let made = Application::new(alloc, op, args)?;
+    let depth = greatest(rows, args).saturating_add(1);
+    Ok(Row::app(depth, made))
 }
 
 impl<N: Name> Shard<N> {
-    ghost use Rattle.elan_table.specs.Shards.{kept_at, number_at, pairs, whole_at, integer_at, integers};
+    ghost use Rattle.std.specs.Option.{option_map};
+    ghost use Rattle.elan_table.specs.Shards.{number_at, pairs, whole_at, integer_at, integers};
 
     /// A shard that holds nothing.
     pub fn new(alloc: Global) -> Shard<N>
@@ -156,25 +94,43 @@ impl<N: Name> Shard<N> {
         Shard {
             kept: IndexMap::new(alloc),
             whole: IndexMap::new(alloc),
+            numbers: Numbers { next: 0, left: 0 },
         }
     }
 
     /// Adds a node that the shard does not hold.
-    fn put(&mut self, node: Vec<u64>, kept: Kept<N>) -> Result<(), NoMemory>
-        requires row { node_key kept.made.value.op kept.made.value.args ≡ node.items }
-        requires absent { kept_at self.old node.items ≡ None }
-        ensures added { OnOk result (pairs self.new ≡ pairs self.old ++ (node.items, kept.made.value.own.index) ∷ []) }
+    fn put(&mut self, node: Application<N>, own: TermRef<N>) -> Result<(), NoMemory>
+        requires row { own.value ≡ app_term (op_of node) (terms (listed node)) }
+        requires absent { number_at self.old (key_of node) ≡ None }
+        ensures added { OnOk result
+            (pairs self.new ≡ pairs self.old ++ (key_of node, own.index) ∷ []) }
         ensures others { integers self.new ≡ integers self.old }
         ensures err { OnErr result (pairs self.new ≡ pairs self.old) }
     {
-        match self.kept.insert(node, kept) {
+        match self.kept.insert(node, own) {
             Ok(_) => Ok(()),
             Err(_) => Err(AllocError),
         }
     }
 
-    /// A row of the application: the one that the shard holds, else a new one. The arguments fit the
-    /// operator, the application is canonical, and each argument is less than 2,000 deep.
+    /// The row that the shard holds for the node of this operator over these rows.
+    fn find(&self, node: &Application<N>, op: OpId, args: &[TermRef<N>]) -> Option<TermRef<N>>
+        requires { key_of node.now ≡ node_key op args.now }
+        ensures term { IfSome result (λ t. t.value ≡ app_term op (terms args.now)) }
+        ensures held { option_map (λ t. t.index) result
+            ≡ number_at self.now (node_key op args.now) }
+    {
+        match self.kept.get_key_value(node) {
+            None => None,
+            Some((key, own)) => {
+                agree_all(key.args(), args);
+                Some(own.again())
+            }
+        }
+    }
+
+    /// A row of the application: the one that the shard holds, else a new one. The arguments fit
+    /// the operator, the application is canonical, and each argument is less than 2,000 deep.
     ///
     /// # Errors
     ///
@@ -189,32 +145,37 @@ impl<N: Name> Shard<N> {
     ) -> Result<TermRef<N>, NoMemory>
         requires { MayMake N.shapes op (terms args.now) }
         ensures term { IfOk result (λ t. t.value ≡ app_term op (terms args.now)) }
-        ensures held { IfSome (number_at self.old (node_key op args.now)) (λ n. IfOk result (λ t. t.index ≡ n) × (pairs self.new ≡ pairs self.old)) }
-        ensures new { number_at self.old (node_key op args.now) ≡ None → IfOk result (λ t. pairs self.new ≡ pairs self.old ++ (node_key op args.now, t.index) ∷ []) }
+        ensures held { IfSome (number_at self.old (node_key op args.now))
+            (λ n. IfOk result (λ t. t.index ≡ n) × (pairs self.new ≡ pairs self.old)) }
+        ensures new { number_at self.old (node_key op args.now) ≡ None →
+            IfOk result
+            (λ t. pairs self.new ≡ pairs self.old ++ (node_key op args.now, t.index) ∷ []) }
         ensures others { integers self.new ≡ integers self.old }
         ensures err { OnErr result (pairs self.new ≡ pairs self.old) }
     {
-        let node = node_of(alloc, op, args)?;
-        match self.kept.get(&node) {
-            Some(kept) => Ok(kept.row_for(rows, op, args)),
+        let node = Application::new(alloc, op, args)?;
+        match self.find(&node, op, args) {
+            Some(own) => Ok(own),
             None => {
-                let kept = make(rt, alloc, rows, op, args)?;
-                let row = kept.row_for(rows, op, args);
-                self.put(node, kept)?;
-                Ok(row)
+                let row = row_of(alloc, rows, op, args)?;
+                let own = rows.put(rt, self.numbers.next(rows), row)?;
+                let answer = own.again();
+                self.put(node, own)?;
+                Ok(answer)
             }
         }
     }
 
     /// Adds an integer that the shard does not hold.
-    fn put_integer(&mut self, value: i64, integer: Integer<N>) -> Result<(), NoMemory>
-        requires row { integer.0 ≡ value }
+    fn put_integer(&mut self, value: i64, own: TermRef<N>) -> Result<(), NoMemory>
+        requires row { own.value ≡ int_term value }
         requires absent { whole_at self.old value ≡ None }
-        ensures added { OnOk result (integers self.new ≡ integers self.old ++ (value, integer.1) ∷ []) }
+        ensures added { OnOk result
+            (integers self.new ≡ integers self.old ++ (value, own.index) ∷ []) }
         ensures others { pairs self.new ≡ pairs self.old }
         ensures err { OnErr result (integers self.new ≡ integers self.old) }
     {
-        match self.whole.insert(value, integer) {
+        match self.whole.insert(value, own) {
             Ok(_) => Ok(()),
             Err(_) => Err(AllocError),
         }
@@ -234,18 +195,20 @@ impl<N: Name> Shard<N> {
     ) -> Result<TermRef<N>, NoMemory>
         requires { IsNumber N.shapes value }
         ensures term { IfOk result (λ t. t.value ≡ int_term value) }
-        ensures held { IfSome (integer_at self.old value) (λ n. IfOk result (λ t. t.index ≡ n) × (integers self.new ≡ integers self.old)) }
-        ensures new { integer_at self.old value ≡ None → IfOk result (λ t. integers self.new ≡ integers self.old ++ (value, t.index) ∷ []) }
+        ensures held { IfSome (integer_at self.old value)
+            (λ n. IfOk result (λ t. t.index ≡ n) × (integers self.new ≡ integers self.old)) }
+        ensures new { integer_at self.old value ≡ None →
+            IfOk result (λ t. integers self.new ≡ integers self.old ++ (value, t.index) ∷ []) }
         ensures others { pairs self.new ≡ pairs self.old }
         ensures err { OnErr result (integers self.new ≡ integers self.old) }
     {
         match self.whole.get(&value) {
-            Some(integer) => Ok(integer.row()),
+            Some(own) => Ok(own.again()),
             None => {
-                let integer = new_integer(rt, rows, value)?;
-                let row = integer.row();
-                self.put_integer(value, integer)?;
-                Ok(row)
+                let own = new_integer(rt, rows, self.numbers.next(rows), value)?;
+                let answer = own.again();
+                self.put_integer(value, own)?;
+                Ok(answer)
             }
         }
     }
@@ -253,10 +216,14 @@ impl<N: Name> Shard<N> {
 
 /// A new row of the integer.
 #[tactic(auto, using(crate::proofs::Made::integer_stands))]
-fn new_integer<N: Name, R: Wait>(rt: &R, rows: &Rows<N>, value: i64) -> Result<Integer<N>, NoMemory>
+fn new_integer<N: Name, R: Wait>(
+    rt: &R,
+    rows: &Rows<N>,
+    number: u64,
+    value: i64,
+) -> Result<TermRef<N>, NoMemory>
     requires { IsNumber N.shapes value }
-    ensures { IfOk result (λ i. i.0 ≡ value) }
+    ensures { IfOk result (λ t. t.value ≡ int_term value) }
 {
-    let own = rows.push(rt, SharedTerm::int(value))?;
-    Ok(Integer { own, value })
+    rows.put(rt, number, Row::int(value))
 }

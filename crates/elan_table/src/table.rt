@@ -2,18 +2,18 @@
 ghost use Rattle.std.specs.Prelude.{◌≡◌, ◌<◌, ◌↔◌, length, IsTrue, IfOk, slice_get, Some};
 ghost use Rattle.elan_terms.specs.Trees.{app_term, int_term};
 ghost use Rattle.elan_terms.specs.Term as spec;
-ghost use Rattle.elan_laws.specs.Valid.{IsNumber, IsAllowed};
+ghost use Rattle.elan_terms.specs.Valid.{IsNumber, IsAllowed};
 ghost use Rattle.elan_shared.specs.Nodes.{arguments};
 ghost use Rattle.elan_table.specs.Rows.{terms};
 ghost use Rattle.elan_table.specs.Nodes.{MayMake, node_of};
+ghost use Rattle.elan_table.specs.Shown.{told};
 
 use crate::NoMemory;
 use crate::name::Name;
 use crate::node::Node;
-use crate::row::TermRef;
+use crate::row::{TermRef, Top, nth};
 use crate::rows::Rows;
 use crate::shard::Shard;
-use elan_shared::to_owned;
 use elan_terms::{OpId, Shapes, Term};
 use std::alloc::Global;
 use std::cmp::Ordering;
@@ -76,8 +76,8 @@ impl<N: Name> Table<N> {
         value != i64::MIN && self.shapes().int.is_some()
     }
 
-    /// Whether the terms of these rows fit the operator: it has so many arguments of these sorts, or
-    /// it is associative and commutative and there are at least two, all of its sort.
+    /// Whether the terms of these rows fit the operator: it has so many arguments of these sorts,
+    /// or it is associative and commutative and there are at least two, all of its sort.
     pub fn fits(&self, op: OpId, args: &[TermRef<N>]) -> bool
         ensures { IsTrue result ↔ IsAllowed N.shapes op (terms args.now) }
     {
@@ -96,14 +96,14 @@ impl<N: Name> Table<N> {
     pub fn node(&self, term: &TermRef<N>) -> Node
         ensures { result ≡ node_of term.now.value }
     {
-        match self.rows.term(term).node() {
-            elan_shared::Node::Int(value) => Node::Int(value),
-            elan_shared::Node::App(op, args) => Node::App(op, args.len() as u64),
+        match self.rows.row(term).node() {
+            Top::Int(value) => Node::Int(value),
+            Top::App(op, args) => Node::App(op, args.len() as u64),
         }
     }
 
     /// A row of the argument at that place, counted from 0: the one that the application was made
-    /// of, where it was interned.
+    /// of. It never fails and waits for nothing.
     pub fn arg<R: Wait>(
         &self,
         rt: &R,
@@ -113,7 +113,39 @@ impl<N: Name> Table<N> {
         requires { place < length (arguments term.now.value) }
         ensures { IfOk result (λ t. slice_get (arguments term.now.value) place ≡ Some t.value) }
     {
-        self.rows.arg(rt, term, place)
+        let _rt = rt;
+        Ok(self.part(term, place))
+    }
+
+    /// The integer, or the operator with the rows of the arguments. They are lent: the call takes
+    /// no memory and waits for nothing.
+    pub fn top(&self, term: &TermRef<N>) -> Top<'_, N>
+        ensures { term.now.value ≡ told result }
+    {
+        self.rows.row(term).node()
+    }
+
+    /// The rows of the arguments from left to right, none for an integer: those that the
+    /// application was made of. They are lent: the call takes no memory and waits for nothing.
+    pub fn args(&self, term: &TermRef<N>) -> &[TermRef<N>]
+        ensures { terms result.now ≡ arguments term.now.value }
+    {
+        match self.rows.row(term).node() {
+            Top::Int(_) => &[],
+            Top::App(_, args) => args,
+        }
+    }
+
+    /// A row of the argument at that place, counted from 0: the one that the application was made
+    /// of. It takes no memory and waits for nothing.
+    pub fn part(&self, term: &TermRef<N>, place: u64) -> TermRef<N>
+        requires { place < length (arguments term.now.value) }
+        ensures { slice_get (arguments term.now.value) place ≡ Some result.value }
+    {
+        match self.rows.row(term).node() {
+            Top::Int(_) => unreachable!(),
+            Top::App(_, args) => nth(args, place),
+        }
     }
 
     /// Rows of one number mean one term, whichever threads made them. The call does nothing.
@@ -121,7 +153,7 @@ impl<N: Name> Table<N> {
         requires { a.now.index ≡ b.now.index }
         ensures { a.now.value ≡ b.now.value }
     {
-        self.rows.agrees(a, b);
+        a.agrees(b);
     }
 
     /// Whether two rows mean one term. It takes no memory.
@@ -143,8 +175,7 @@ impl<N: Name> Table<N> {
     pub fn depth(&self, term: &TermRef<N>) -> u32
         ensures { result ≡ spec.depth term.now.value }
     {
-        term.known();
-        self.rows.term(term).depth() as u32
+        self.rows.row(term).depth()
     }
 
     /// The operators that the table was made for, and the sort of integers.
@@ -158,7 +189,7 @@ impl<N: Name> Table<N> {
     pub fn to_owned(&self, term: &TermRef<N>) -> Result<Term, NoMemory>
         ensures { IfOk result (λ t. t ≡ term.now.value) }
     {
-        to_owned(self.alloc, self.rows.term(term))
+        self.rows.to_owned(self.alloc, term)
     }
 }
 

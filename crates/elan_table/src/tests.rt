@@ -11,7 +11,8 @@ use std::sync::Wait;
 use std::test::Fail;
 use std::thread::{Threads, join};
 
-// The operators of the tests: two constants, an associative and commutative one, and one of two arguments in their order.
+// The operators of the tests: two constants, an associative and commutative one, and one of two
+// arguments in their order.
 const A: OpId = OpId(0);
 
 const B: OpId = OpId(1);
@@ -46,7 +47,7 @@ fn shapes(alloc: Global) -> Result<Shapes, NoMemory> {
 }
 
 fn blank(alloc: Global) -> Result<Blank, NoMemory> {
-    Blank::new(alloc, shapes(alloc)?)
+    Ok(Blank::new(shapes(alloc)?))
 }
 
 /// A row of the application; one that the table does not take is an error as well.
@@ -111,7 +112,7 @@ fn told<N: Name, R: Wait>(
     alloc: Global,
     blank: Blank,
 ) -> Result<(bool, bool, bool, u32), NoMemory>
-    requires { blank ≡ (N.shelves, N.shapes) }
+    requires { blank ≡ (N.root, N.shapes) }
 {
     let table = Table::<N>::new(alloc, blank.named::<N>(alloc)?)?;
     let none = Vec::new(alloc);
@@ -138,7 +139,7 @@ fn a_row_tells_its_term(rt: HostRuntime) -> Result<(), Fail> {
 }
 
 fn one_shard<N: Name, R: Wait>(rt: &R, alloc: Global, blank: Blank) -> Result<bool, NoMemory>
-    requires { blank ≡ (N.shelves, N.shapes) }
+    requires { blank ≡ (N.root, N.shapes) }
 {
     let rows = blank.named::<N>(alloc)?;
     let mut shard = Shard::new(alloc);
@@ -193,7 +194,7 @@ fn side_by_side<N: Name + Send + Sync, R: Threads + Wait + Sync>(
     alloc: Global,
     blank: Blank,
 ) -> Result<bool, NoMemory>
-    requires { blank ≡ (N.shelves, N.shapes) }
+    requires { blank ≡ (N.root, N.shapes) }
 {
     let table = Table::<N>::new(alloc, blank.named::<N>(alloc)?)?;
     let (one, other) = join(

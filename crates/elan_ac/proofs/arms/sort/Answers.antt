@@ -2,7 +2,7 @@ use Rattle.std.proofs.Common.{rules, ◌≡◌, ap, is_lt, Result, Ok, Err, OnOk
 use Rattle.std.proofs.lemmas.List.Sorted.{answers_always}
 use Rattle.elan_terms.specs.Term.{order}
 use Rattle.std.proofs.lemmas.List.MinMax.{ranks_by}
-use Rattle.elan_laws.proofs.OrderLaws.{order_total}
+use Rattle.elan_terms.proofs.OrderLaws.{order_total}
 use Rattle.elan_ac.proofs.SortLemmas.{earlier, sorted_ascending}
 use Rattle.elan_ac.proofs.arms.sort.Goals as goal
 

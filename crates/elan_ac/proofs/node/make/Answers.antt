@@ -1,5 +1,5 @@
 use Rattle.std.proofs.Common.{sym, ◌∙◌}
-use Rattle.elan_laws.proofs.Sorting.{not_true}
+use Rattle.elan_terms.proofs.Sorting.{not_true}
 use Rattle.elan_ac.proofs.NodeLemmas.{may, too_deep}
 use Rattle.elan_ac.proofs.node.make.Goals as goal
 

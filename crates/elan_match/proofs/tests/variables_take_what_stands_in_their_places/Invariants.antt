@@ -2,4 +2,4 @@ use Rattle.elan_match.proofs.tests.variables_take_what_stands_in_their_places.Gi
 
 -- the rows that were just made
 abbrev pub ghosts-answers : goal.ghosts-answers
-ghosts-answers g a = record { shelves = a.blank.0; shapes = a.blank.1 }
+ghosts-answers g a = record { root = a.blank.0; shapes = a.blank.1 }

@@ -1,0 +1,10 @@
+//! What one worker remembers of a term table: rows by their nodes, without a lock.
+#![tactic(auto)]
+
+mod front;
+mod node;
+mod place;
+#[cfg(test)]
+mod tests;
+
+pub use front::{Front, PLACES};

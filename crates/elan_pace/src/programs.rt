@@ -57,51 +57,60 @@ const OTHERS: OpId = OpId(10);
 /// The first of ten constants.
 const FIRST: u32 = 11;
 
-fn operator(
-    alloc: Global,
-    name: &str,
-    args: &[SortId],
-    sort: SortId,
-    builtin: Option<Builtin>,
-) -> Result<Operator, NoMemory> {
+/// An operator: its name, which stands before its arguments in the spelling, its argument sorts, its
+/// sort, and its built-in operation, if it has one.
+struct Row(&'static str, &'static [SortId], SortId, Option<Builtin>);
+
+const OPERATORS: [Row; 21] = [
+    Row("true", &[], BOOL, Some(Builtin::Yes)),
+    Row("false", &[], BOOL, Some(Builtin::No)),
+    Row("+", &[INT, INT], INT, Some(Builtin::Add)),
+    Row("-", &[INT, INT], INT, Some(Builtin::Sub)),
+    Row(">", &[INT, INT], BOOL, Some(Builtin::Greater)),
+    Row("U", &[OTHER, OTHER], OTHER, None),
+    Row("nil", &[], OTHER, None),
+    Row("cons", &[INT, OTHER], OTHER, None),
+    Row("length", &[OTHER], INT, None),
+    Row("down", &[INT], INT, None),
+    Row("n", &[INT], OTHER, None),
+    Row("a", &[], OTHER, None),
+    Row("b", &[], OTHER, None),
+    Row("c", &[], OTHER, None),
+    Row("d", &[], OTHER, None),
+    Row("e", &[], OTHER, None),
+    Row("f", &[], OTHER, None),
+    Row("g", &[], OTHER, None),
+    Row("h", &[], OTHER, None),
+    Row("i", &[], OTHER, None),
+    Row("j", &[], OTHER, None),
+];
+
+fn pieces(alloc: Global, name: &str, holes: usize) -> Result<Items<Piece>, NoMemory> {
     let mut pieces = Items::new(alloc);
     pieces.push(Piece::Word(Name::new(alloc, name.as_bytes())?))?;
-    for _ in args {
+    for _ in 0..holes {
         pieces.push(Piece::Hole)?;
     }
-    Ok(Operator {
-        pieces,
-        args: Items::from_slice(alloc, args)?,
-        sort,
-        pri: 0,
-        assoc: Assoc::No,
-        ac: false,
-        builtin,
-    })
+    Ok(pieces)
 }
 
-fn union(alloc: Global) -> Result<Operator, NoMemory> {
-    let mut union = operator(alloc, "U", &[OTHER, OTHER], OTHER, None)?;
-    union.ac = true;
-    Ok(union)
+/// The operator of a row. `U` is associative and commutative.
+fn operator(alloc: Global, row: &Row) -> Result<Operator, NoMemory> {
+    Ok(Operator {
+        pieces: pieces(alloc, row.0, row.1.len())?,
+        args: Items::from_slice(alloc, row.1)?,
+        sort: row.2,
+        pri: 0,
+        assoc: Assoc::No,
+        ac: row.0 == "U",
+        builtin: row.3,
+    })
 }
 
 fn operators(alloc: Global) -> Result<Items<Operator>, NoMemory> {
     let mut all = Items::new(alloc);
-    let two = [INT, INT];
-    all.push(operator(alloc, "true", &[], BOOL, Some(Builtin::Yes))?)?;
-    all.push(operator(alloc, "false", &[], BOOL, Some(Builtin::No))?)?;
-    all.push(operator(alloc, "+", two.as_slice(), INT, Some(Builtin::Add))?)?;
-    all.push(operator(alloc, "-", two.as_slice(), INT, Some(Builtin::Sub))?)?;
-    all.push(operator(alloc, ">", two.as_slice(), BOOL, Some(Builtin::Greater))?)?;
-    all.push(union(alloc)?)?;
-    all.push(operator(alloc, "nil", &[], OTHER, None)?)?;
-    all.push(operator(alloc, "cons", &[INT, OTHER], OTHER, None)?)?;
-    all.push(operator(alloc, "length", &[OTHER], INT, None)?)?;
-    all.push(operator(alloc, "down", &[INT], INT, None)?)?;
-    all.push(operator(alloc, "n", &[INT], OTHER, None)?)?;
-    for name in ["a", "b", "c", "d", "e", "f", "g", "h", "i", "j"] {
-        all.push(operator(alloc, name, &[], OTHER, None)?)?;
+    for row in &OPERATORS {
+        all.push(operator(alloc, row)?)?;
     }
     Ok(all)
 }

@@ -423,7 +423,7 @@ fn rule(alloc: Global, described: &Described, line: &Line) -> Result<Option<Rule
     }
 }
 
-fn named(
+fn named_strategy(
     alloc: Global,
     described: &Described,
     definition: &Definition,
@@ -451,7 +451,7 @@ fn parts(alloc: Global, described: &Described) -> Result<Option<Parts>, NoMemory
     }
     let mut named = Items::new(alloc);
     for there in described.named {
-        let Some(next) = named(alloc, described, there)? else {
+        let Some(next) = named_strategy(alloc, described, there)? else {
             return Ok(None);
         };
         named.push(next)?;

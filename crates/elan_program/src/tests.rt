@@ -331,26 +331,42 @@ fn with_strategy(alloc: Global, node: StrategyNode) -> Result<Parts, NoMemory> {
     Ok(parts)
 }
 
-#[test]
-fn calls_and_congruences_have_what_they_need(rt: HostRuntime) -> Result<(), Fail> {
-    let alloc = rt.alloc();
-    let call = StrategyNode::Call(0, identities(alloc, 1)?);
-    assert!(rt; with_strategy(alloc, call)?.is_valid(alloc)?);
-    let plus = StrategyNode::Cong(OpId(1), identities(alloc, 2)?);
-    assert!(rt; with_strategy(alloc, plus)?.is_valid(alloc)?);
+// Whether the parts with a rule that uses this strategy are valid.
+fn is_valid_with(alloc: Global, node: StrategyNode) -> Result<bool, NoMemory> {
+    with_strategy(alloc, node)?.is_valid(alloc)
+}
 
-    let parameter = StrategyNode::Param(0);
-    assert!(rt; !with_strategy(alloc, parameter)?.is_valid(alloc)?);
-    let bare = StrategyNode::Call(0, identities(alloc, 0)?);
-    assert!(rt; !with_strategy(alloc, bare)?.is_valid(alloc)?);
-    let absent = StrategyNode::Call(1, identities(alloc, 1)?);
-    assert!(rt; !with_strategy(alloc, absent)?.is_valid(alloc)?);
-    let commutative = StrategyNode::Cong(OpId(0), identities(alloc, 2)?);
-    assert!(rt; !with_strategy(alloc, commutative)?.is_valid(alloc)?);
-    let short = StrategyNode::Cong(OpId(1), identities(alloc, 1)?);
-    assert!(rt; !with_strategy(alloc, short)?.is_valid(alloc)?);
-    let unknown = StrategyNode::Cong(OpId(2), identities(alloc, 2)?);
-    assert!(rt; !with_strategy(alloc, unknown)?.is_valid(alloc)?);
+fn is_valid_call(alloc: Global, number: u32, count: usize) -> Result<bool, NoMemory> {
+    let actuals = identities(alloc, count)?;
+    is_valid_with(alloc, StrategyNode::Call(number, actuals))
+}
+
+fn is_valid_congruence(alloc: Global, op: u32, count: usize) -> Result<bool, NoMemory> {
+    let arms = identities(alloc, count)?;
+    is_valid_with(alloc, StrategyNode::Cong(OpId(op), arms))
+}
+
+#[test]
+fn a_call_has_an_actual_for_each_parameter(rt: HostRuntime) -> Result<(), Fail> {
+    let alloc = rt.alloc();
+    for (number, count, valid) in [(0u32, 1usize, true), (0, 0, false), (1, 1, false)] {
+        assert_eq!(rt; is_valid_call(alloc, number, count)?, valid);
+    }
+    assert!(rt; !is_valid_with(alloc, StrategyNode::Param(0))?);
+    Ok(())
+}
+
+#[test]
+fn a_congruence_has_a_strategy_for_each_argument(rt: HostRuntime) -> Result<(), Fail> {
+    let alloc = rt.alloc();
+    for (op, count, valid) in [
+        (1u32, 2usize, true),
+        (0, 2, false),
+        (1, 1, false),
+        (2, 2, false),
+    ] {
+        assert_eq!(rt; is_valid_congruence(alloc, op, count)?, valid);
+    }
     Ok(())
 }
 

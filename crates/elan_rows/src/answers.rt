@@ -70,19 +70,20 @@ fn answered(
     program: &Program,
     row: &Row,
 ) -> Result<String, NoMemory> {
-    let start = strategy(alloc, described, row.0)?;
-    let query = pattern(alloc, described, row.1)?;
-    match (start, query) {
-        (Some(start), Some(query)) => {
-            let items = plain_items(alloc, program, &start, &query, row.2.min(1000))?;
-            written(alloc, described, items.as_slice())
-        }
-        _ => {
-            let mut text = String::new(alloc);
-            text.push('?')?;
-            Ok(text)
-        }
-    }
+    let Some(start) = strategy(alloc, described, row.0)? else {
+        return unknown(alloc);
+    };
+    let Some(query) = pattern(alloc, described, row.1)? else {
+        return unknown(alloc);
+    };
+    let items = plain_items(alloc, program, &start, &query, row.2.min(1000))?;
+    written(alloc, described, items.as_slice())
+}
+
+fn unknown(alloc: Global) -> Result<String, NoMemory> {
+    let mut text = String::new(alloc);
+    text.push('?')?;
+    Ok(text)
 }
 
 // The number of the first row with other items, or 1,000 where the program is not valid.

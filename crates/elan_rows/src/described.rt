@@ -374,6 +374,25 @@ pub fn strategy(
     body(alloc, described, &[], words)
 }
 
+fn where_clause(
+    alloc: Global,
+    described: &Described,
+    left: &[&str],
+    by: &[&str],
+    of: &[&str],
+) -> Result<Option<Clause>, NoMemory> {
+    let Some(left) = pattern(alloc, described, left)? else {
+        return Ok(None);
+    };
+    let Some(by) = strategy(alloc, described, by)? else {
+        return Ok(None);
+    };
+    let Some(of) = pattern(alloc, described, of)? else {
+        return Ok(None);
+    };
+    Ok(Some(Clause::Where { left, by, of }))
+}
+
 fn clause(
     alloc: Global,
     described: &Described,
@@ -384,43 +403,49 @@ fn clause(
             None => Ok(None),
             Some(test) => Ok(Some(Clause::If(test))),
         },
-        Condition::Where(left, by, of) => {
-            let left = pattern(alloc, described, left)?;
-            let by = strategy(alloc, described, by)?;
-            let of = pattern(alloc, described, of)?;
-            match (left, by, of) {
-                (Some(left), Some(by), Some(of)) => Ok(Some(Clause::Where { left, by, of })),
-                _ => Ok(None),
-            }
-        }
+        Condition::Where(left, by, of) => where_clause(alloc, described, left, by, of),
     }
 }
 
-fn rule(alloc: Global, described: &Described, line: &Line) -> Result<Option<Rule>, NoMemory> {
+fn clauses(
+    alloc: Global,
+    described: &Described,
+    conditions: &[Condition],
+) -> Result<Option<Items<Clause>>, NoMemory> {
     let mut clauses = Items::new(alloc);
-    for condition in line.3 {
+    for condition in conditions {
         let Some(next) = clause(alloc, described, condition)? else {
             return Ok(None);
         };
         clauses.push(next)?;
     }
-    let label = if line.0.is_empty() {
-        None
-    } else {
-        Some(name(alloc, line.0)?)
-    };
-    let left = pattern(alloc, described, line.1)?;
-    let right = pattern(alloc, described, line.2)?;
-    match (left, right) {
-        (Some(left), Some(right)) => Ok(Some(Rule {
-            label,
-            sort: described.sort,
-            left,
-            right,
-            clauses,
-        })),
-        _ => Ok(None),
+    Ok(Some(clauses))
+}
+
+fn label(alloc: Global, text: &str) -> Result<Option<Name>, NoMemory> {
+    if text.is_empty() {
+        return Ok(None);
     }
+    Ok(Some(name(alloc, text)?))
+}
+
+fn rule(alloc: Global, described: &Described, line: &Line) -> Result<Option<Rule>, NoMemory> {
+    let Some(clauses) = clauses(alloc, described, line.3)? else {
+        return Ok(None);
+    };
+    let Some(left) = pattern(alloc, described, line.1)? else {
+        return Ok(None);
+    };
+    let Some(right) = pattern(alloc, described, line.2)? else {
+        return Ok(None);
+    };
+    Ok(Some(Rule {
+        label: label(alloc, line.0)?,
+        sort: described.sort,
+        left,
+        right,
+        clauses,
+    }))
 }
 
 fn named_strategy(

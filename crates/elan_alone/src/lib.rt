@@ -2,7 +2,5 @@
 #![tactic(auto)]
 
 mod alone;
-#[cfg(test)]
-mod tests;
 
 pub use alone::finish;

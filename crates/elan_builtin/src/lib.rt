@@ -3,8 +3,6 @@
 
 mod operand;
 mod reducing;
-#[cfg(test)]
-mod tests;
 
 pub use operand::{Operand, Reduced};
 pub use reducing::reduce;

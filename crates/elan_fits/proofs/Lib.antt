@@ -9,5 +9,4 @@ pub mod StrikeLemmas
 pub mod LookLemmas
 pub mod WalkLemmas
 pub mod StageLemmas
-pub mod TestLemmas
 pub mod Numbers

@@ -7,8 +7,6 @@ mod plain;
 mod sorts;
 mod strike;
 mod task;
-#[cfg(test)]
-mod tests;
 mod walk;
 
 pub use direct::match_plain;

@@ -4,7 +4,5 @@
 mod front;
 mod node;
 mod place;
-#[cfg(test)]
-mod tests;
 
 pub use front::{Front, PLACES};

@@ -17,74 +17,16 @@ use Rattle.elan_laws.specs.Parts.{SomeOf, none, taken, left, IsPart, whole, insi
 use Rattle.elan_terms.proofs.Lists.{AllOf, Pairs, In, in_of_contains, contains_of_in, pairs_from, in_all, in_left, in_right, in_either, in_filter, in_kept, in_map, in_mapped, in_flat, in_flattened}
 use Rattle.elan_terms.proofs.Induction.{ind_term, cases_term}
 use Rattle.elan_terms.proofs.NodeLemmas.{two_arguments, valid_arguments}
+use Rattle.elan_terms.proofs.PartLemmas.{once-pairs, once-in, in_once}
 use Rattle.elan_terms.proofs.Sorting.{not_true, ascending-pairs, ascending-in, in_ascending}
 
 -- ---- each once
-
-once-all_by : (P : Term → Type 0) (t : Term) (rest : List Term) (b : Bool) → P t → AllOf P rest → AllOf P (cond b rest (t ∷ rest))
-once-all_by P t rest true p h = h
-once-all_by P t rest false p h = (p, h)
-
-once-all : (P : Term → Type 0) (ts : List Term) → AllOf P ts → AllOf P (once ts)
-once-all P [] h = tt
-once-all P (t ∷ ts) h = once-all_by P t (once ts) (list_any (same t) ts) h.0 (once-all P ts h.1)
-
-less_of : (o : Ordering) → is_eq o ≡ false → is_gt o ≡ false → o ≡ Less
-less_of Less e f = refl
-less_of Equal e f = not_true e
-less_of Greater e f = not_true f
-
-none_is : (a b : Bool) → a || b ≡ false → (a ≡ false) × (b ≡ false)
-none_is true b e = not_true e
-none_is false b e = (refl, e)
-
--- before those that come after and are not equal
-strictly_before : (t : Term) (ts : List Term) → list_any (same t) ts ≡ false → AllOf (NotAfter t) ts → AllOf (Before t) ts
-strictly_before t [] e h = tt
-strictly_before t (u ∷ ts) e h =
-    let n : (same t u ≡ false) × (list_any (same t) ts ≡ false) = none_is (same t u) (list_any (same t) ts) e in
-    (less_of (order t u) n.0 h.0, strictly_before t ts n.1 h.1)
-
-once-pairs_by : (t : Term) (ts rest : List Term) (b : Bool) → list_any (same t) ts ≡ b → (list_any (same t) ts ≡ false → AllOf (Before t) rest) → Pairs Before rest → Pairs Before (cond b rest (t ∷ rest))
-once-pairs_by t ts rest true e f h = h
-once-pairs_by t ts rest false e f h = (f e, h)
-
-once-pairs : (ts : List Term) → Pairs NotAfter ts → Pairs Before (once ts)
-once-pairs [] h = tt
-once-pairs (t ∷ ts) h = once-pairs_by t ts (once ts) (list_any (same t) ts) refl
-    (λ e. once-all (Before t) ts (strictly_before t ts e h.0)) (once-pairs ts h.1)
 
 pub parts-ascend : (shapes : Shapes) (t : Term) → AscendsStrictly (parts shapes t)
 unfolding parts
 parts-ascend shapes t = pairs_from Before _ (once-pairs _ (ascending-pairs (pieces shapes t)))
 
 -- ---- what is in them
-
-once-in_by : (x t : Term) (rest : List Term) (b : Bool) → In x (cond b rest (t ∷ rest)) → (x ≡ t) ⊎ In x rest
-once-in_by x t rest true i = inr i
-once-in_by x t rest false i = i
-
-once-in : (x : Term) (ts : List Term) → In x (once ts) → In x ts
-once-in x [] i = i
-once-in x (t ∷ ts) i = ⊎_elim (λ e. inl e) (λ j. inr (once-in x ts j)) (once-in_by x t (once ts) (list_any (same t) ts) i)
-
-one_is : (a b : Bool) → a || b ≡ true → (a ≡ true) ⊎ (b ≡ true)
-one_is true b e = inl e
-one_is false b e = inr e
-
-any-in : (t : Term) (ts : List Term) → list_any (same t) ts ≡ true → In t ts
-any-in t [] e = not_true (sym e)
-any-in t (u ∷ ts) e = ⊎_elim (λ h. inl (same-equal t u h)) (λ h. inr (any-in t ts h)) (one_is (same t u) (list_any (same t) ts) e)
-
-in_once_by : (x t : Term) (rest : List Term) (b : Bool) → (x ≡ t → b ≡ true → In x rest) → (x ≡ t) ⊎ In x rest → In x (cond b rest (t ∷ rest))
-in_once_by x t rest true f (inl e) = f e refl
-in_once_by x t rest true f (inr i) = i
-in_once_by x t rest false f i = i
-
-in_once : (x : Term) (ts : List Term) → In x ts → In x (once ts)
-in_once x [] i = i
-in_once x (t ∷ ts) (inl e) = in_once_by x t (once ts) (list_any (same t) ts) (λ e h. subst (λ y. In y (once ts)) (sym e) (in_once t ts (any-in t ts h))) (inl e)
-in_once x (t ∷ ts) (inr i) = in_once_by x t (once ts) (list_any (same t) ts) (λ e h. in_once x ts i) (inr (in_once x ts i))
 
 pub parts-pieces : (shapes : Shapes) (t p : Term) → In p (parts shapes t) ↔ In p (pieces shapes t)
 unfolding parts

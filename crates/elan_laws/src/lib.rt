@@ -3,7 +3,5 @@
 
 pub mod laws;
 mod modulo;
-#[cfg(test)]
-mod tests;
 
 pub use modulo::equal_modulo;

@@ -6,8 +6,6 @@ mod cut;
 mod fault;
 pub mod laws;
 mod places;
-#[cfg(test)]
-mod tests;
 mod token;
 mod whole;
 

@@ -5,8 +5,6 @@ mod ask;
 mod folder;
 mod loader;
 mod memory;
-#[cfg(test)]
-mod tests;
 
 pub use ask::ask_all;
 pub use folder::FolderLoader;

@@ -6,8 +6,6 @@ mod copies;
 mod entry;
 mod find;
 mod flat;
-#[cfg(test)]
-mod flattening;
 pub mod laws;
 mod load;
 mod modules;
@@ -18,3 +16,5 @@ mod walk;
 
 pub use entry::flatten;
 pub use flat::{Flat, FlattenRefusal, Instance, LoadedText, Origin};
+pub use modules::{copy_name, copy_owner, parameters_of};
+pub use sorts::{argument_spans, part, place_at, word, word_at, written};

@@ -42,14 +42,14 @@ pub(crate) fn parameter_count(standard: Standard) -> usize
 }
 
 /// A copy of a name.
-pub(crate) fn copy_name(alloc: Global, name: &Name) -> Result<Name, NoMemory>
+pub fn copy_name(alloc: Global, name: &Name) -> Result<Name, NoMemory>
     ensures { IfOk result (λ copy. copy ≡ name.now) }
 {
     Name::new(alloc, name.as_bytes())
 }
 
 /// A copy of the name of a loaded text.
-pub(crate) fn copy_owner(alloc: Global, owner: &Option<Name>) -> Result<Option<Name>, NoMemory>
+pub fn copy_owner(alloc: Global, owner: &Option<Name>) -> Result<Option<Name>, NoMemory>
     ensures { IfOk result (λ copy. copy ≡ owner.now) }
 {
     match owner {
@@ -96,7 +96,7 @@ pub(crate) fn name_of<'a>(text: &'a LoadedText, outline: &ModuleOutline) -> &'a 
 }
 
 /// The names of the parameters with these token numbers.
-pub(crate) fn parameters_of(
+pub fn parameters_of(
     alloc: Global,
     text: &LoadedText,
     numbers: &[u32],

@@ -12,7 +12,7 @@ use sqlite_items::Items;
 use std::alloc::{AllocError, Global};
 
 /// The items from one number up to another, or those of them that there are.
-pub(crate) fn part<T>(items: &[T], first: usize, past: usize) -> &[T]
+pub fn part<T>(items: &[T], first: usize, past: usize) -> &[T]
     ensures { result.now ≡ slice_range items.now first past }
 {
     let (_, rest) = items.split_at(first.min(items.len()));
@@ -21,14 +21,14 @@ pub(crate) fn part<T>(items: &[T], first: usize, past: usize) -> &[T]
 }
 
 /// The bytes of a token.
-pub(crate) fn word<'a>(bytes: &'a [u8], token: &Token) -> &'a [u8]
+pub fn word<'a>(bytes: &'a [u8], token: &Token) -> &'a [u8]
     ensures { result.now ≡ token_text bytes.now token.now }
 {
     part(bytes, token.start as usize, token.end as usize)
 }
 
 /// The bytes of the token of a number, or none where there is no such token.
-pub(crate) fn word_at(text: &LoadedText, number: u32) -> &[u8]
+pub fn word_at(text: &LoadedText, number: u32) -> &[u8]
     ensures { result.now ≡ spec.word_at text.now number }
 {
     match text.tokens.get(number as usize) {
@@ -38,7 +38,7 @@ pub(crate) fn word_at(text: &LoadedText, number: u32) -> &[u8]
 }
 
 /// The place of the token of a number, or that of the first byte where there is no such token.
-pub(crate) fn place_at(text: &LoadedText, number: u32) -> Place
+pub fn place_at(text: &LoadedText, number: u32) -> Place
     ensures { result ≡ spec.place_at text.now number }
 {
     match text.tokens.get(number as usize) {
@@ -77,7 +77,7 @@ fn value_of<'a>(parameters: &'a [Name], sorts: &'a [Name], word: &'a [u8]) -> &'
 }
 
 /// The written form of the sort expression of a span, with the parameters replaced.
-pub(crate) fn written(
+pub fn written(
     alloc: Global,
     text: &LoadedText,
     parameters: &[Name],
@@ -142,7 +142,7 @@ pub(crate) fn names_in(written: &[u8]) -> usize
 
 /// The arguments of a reference, in order.
 #[tactic(auto, using(crate::proofs::SortLemmas::drop_words))]
-pub(crate) fn argument_spans(
+pub fn argument_spans(
     alloc: Global,
     text: &LoadedText,
     span: Span,

@@ -10,8 +10,6 @@ mod sort_expressions;
 mod span;
 mod strategies;
 mod symbol;
-#[cfg(test)]
-mod tests;
 mod texts;
 mod worth;
 

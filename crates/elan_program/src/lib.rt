@@ -10,14 +10,13 @@ mod signature;
 mod sound;
 mod spelling;
 mod strategy;
-#[cfg(test)]
-mod tests;
 mod valid;
 
 pub use copies::{copy_clause, copy_name, copy_rule, copy_strategy};
 pub use extending::extension;
+pub use patterns::{pattern_sort, uses};
 pub use program::{Clause, Named, Parts, Program, Rule};
 pub use signature::{Assoc, Builtin, Operator, Piece, Signature, Truth};
-pub use sound::holes;
-pub use spelling::is_name;
+pub use sound::{ac_fits, are_sound_operators, are_spelled, holes, int_fits, led_on, truth_fits};
+pub use spelling::{is_name, is_spelled};
 pub use strategy::{Scope, Strategy, StrategyNode};

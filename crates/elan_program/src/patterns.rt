@@ -89,7 +89,7 @@ fn sort_over(shapes: &Shapes, op: OpId, args: &[Pattern]) -> Option<SortId>
 /// The sort of a pattern that is valid for the shapes, and `None` for another one.
 #[cycle(pattern_sort)]
 #[tactic(auto, using(crate::proofs::PatternLemmas::sort_rules))]
-pub(crate) fn pattern_sort(shapes: &Shapes, pattern: &Pattern) -> Option<SortId>
+pub fn pattern_sort(shapes: &Shapes, pattern: &Pattern) -> Option<SortId>
     ensures { result ≡ spec.pattern_sort shapes.now pattern.now }
 {
     match &pattern.node {
@@ -126,7 +126,7 @@ fn all_use(bound: &[(u32, SortId)], patterns: &[Pattern]) -> bool
 /// Whether each variable of a pattern is among these, with the same sort.
 #[cycle(uses)]
 #[tactic(auto, using(crate::proofs::PatternLemmas::use_rules))]
-pub(crate) fn uses(bound: &[(u32, SortId)], pattern: &Pattern) -> bool
+pub fn uses(bound: &[(u32, SortId)], pattern: &Pattern) -> bool
     ensures { result ≡ spec.uses bound.now pattern.now }
 {
     match &pattern.node {

@@ -72,7 +72,8 @@ pub fn holes(pieces: &[Piece]) -> usize
     }
 }
 
-fn are_spelled(pieces: &[Piece]) -> bool
+/// Whether each word of a spelling is one that a spelling may have.
+pub fn are_spelled(pieces: &[Piece]) -> bool
     ensures { result ≡ spec.are_spelled pieces.now }
 {
     match pieces {
@@ -95,7 +96,8 @@ fn is_spelling_of(operator: &Operator) -> bool
 
 // ---- sorts of arguments
 
-fn ac_fits(operator: &Operator) -> bool
+/// Whether an associative and commutative operator has two arguments of its own sort.
+pub fn ac_fits(operator: &Operator) -> bool
     ensures { result ≡ spec.ac_fits operator.now }
 {
     if !operator.ac {
@@ -198,7 +200,8 @@ fn is_no(builtin: Option<Builtin>) -> bool
     matches!(builtin, Some(Builtin::No))
 }
 
-fn truth_fits(signature: &Signature) -> bool
+/// Whether the operators of the truth values are the built-in constants of their sort, where there are truth values.
+pub fn truth_fits(signature: &Signature) -> bool
     ensures { result ≡ spec.truth_fits signature.now signature.now.truth }
 {
     match &signature.truth {
@@ -210,7 +213,8 @@ fn truth_fits(signature: &Signature) -> bool
     }
 }
 
-fn int_fits(signature: &Signature) -> bool
+/// Whether the sort of integers is one of the sorts, where there are integers.
+pub fn int_fits(signature: &Signature) -> bool
     ensures { result ≡ spec.int_fits signature.now signature.now.int }
 {
     match signature.int {
@@ -222,7 +226,7 @@ fn int_fits(signature: &Signature) -> bool
 // ---- injections
 
 /// From where to where an injection leads, by the numbers of the sorts.
-type Lead = (u32, u32);
+pub type Lead = (u32, u32);
 
 /// Adds from where to where an operator leads, if it is an injection.
 fn lead_onto(out: &mut Items<Lead>, operator: &Operator) -> Result<(), NoMemory>
@@ -279,8 +283,9 @@ fn led_on_onto(out: &mut Items<Lead>, others: &[Lead], leads: &[Lead]) -> Result
     }
 }
 
+/// The leads at whose end one of the others begins.
 #[tactic(auto, unfolding(crate::specs::Soundness::led_on))]
-fn led_on(alloc: Global, others: &[Lead], leads: &[Lead]) -> Result<Items<Lead>, NoMemory>
+pub fn led_on(alloc: Global, others: &[Lead], leads: &[Lead]) -> Result<Items<Lead>, NoMemory>
     ensures { IfOk result (λ out. out ≡ spec.led_on others.now leads.now) }
 {
     let mut out = Items::new(alloc);
@@ -324,7 +329,8 @@ fn is_sound_operator(signature: &Signature, operator: &Operator) -> bool
         && (ac_fits(operator) && builtin_fits(signature, operator))
 }
 
-fn are_sound_operators(signature: &Signature, operators: &[Operator]) -> bool
+/// Whether the spelling, the sorts and the operation of each of these operators fit together.
+pub fn are_sound_operators(signature: &Signature, operators: &[Operator]) -> bool
     ensures { result ≡ list_all (spec.is_sound_operator signature.now) operators.now }
 {
     match operators {
@@ -335,15 +341,18 @@ fn are_sound_operators(signature: &Signature, operators: &[Operator]) -> bool
     }
 }
 
-/// Whether a signature is sound.
-#[tactic(auto, unfolding(crate::specs::Soundness::is_sound))]
-pub(crate) fn is_sound(alloc: Global, signature: &Signature) -> Result<bool, NoMemory>
-    ensures { IfOk result (λ ok. ok ≡ spec.is_sound signature.now) }
-{
-    let acyclic = has_no_cycle(alloc, signature)?;
-    Ok(
-        (signature.sorts.len() < MOST && signature.operators.len() < MOST)
-            && (are_sound_operators(signature, signature.operators.as_slice())
-                && (int_fits(signature) && (truth_fits(signature) && acyclic))),
-    )
+impl Signature {
+    /// Whether the signature is sound: its numbers are in range, the spelling, the sorts and the operation of each operator
+    /// fit together, the constants of the truth values are the built-in ones, and no injections lead a sort back to itself.
+    #[tactic(auto, unfolding(crate::specs::Soundness::is_sound))]
+    pub fn is_sound(&self, alloc: Global) -> Result<bool, NoMemory>
+        ensures { IfOk result (λ ok. ok ≡ spec.is_sound self.now) }
+    {
+        let acyclic = has_no_cycle(alloc, self)?;
+        Ok(
+            (self.sorts.len() < MOST && self.operators.len() < MOST)
+                && (are_sound_operators(self, self.operators.as_slice())
+                    && (int_fits(self) && (truth_fits(self) && acyclic))),
+        )
+    }
 }

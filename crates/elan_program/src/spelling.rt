@@ -117,7 +117,7 @@ pub fn is_name(text: &[u8]) -> bool
 
 /// Whether a spelling may have this word: it is a word that is not reserved, or a sign.
 #[tactic(auto, unfolding(crate::specs::Spelling::is_spelled))]
-pub(crate) fn is_spelled(text: &[u8]) -> bool
+pub fn is_spelled(text: &[u8]) -> bool
     ensures { result ≡ spec.is_spelled text.now }
 {
     is_name(text) || (is_long_sign(text) || is_short_sign(text))

@@ -7,7 +7,7 @@ ghost use Rattle.elan_program.specs.Signature.{shapes_of};
 ghost use Rattle.elan_program.specs.Validity as spec;
 
 use crate::patterns::{binds, pattern_sort, uses};
-use crate::sound::{MOST, has_sort_id, is_sort, is_sound, same_sort, truth_sort};
+use crate::sound::{MOST, has_sort_id, is_sort, same_sort, truth_sort};
 use crate::{Clause, Named, Parts, Rule, Scope, Signature, Strategy, StrategyNode};
 use elan_terms::{OpId, Pattern, Shapes, SortId, variables};
 use elan_text::NoMemory;
@@ -360,7 +360,7 @@ impl Parts {
     pub fn is_valid(&self, alloc: Global) -> Result<bool, NoMemory>
         ensures { IfOk result (λ ok. ok ≡ spec.is_valid self.now) }
     {
-        let sound = is_sound(alloc, &self.signature)?;
+        let sound = self.signature.is_sound(alloc)?;
         let shapes = self.signature.shapes(alloc)?;
         let rules = are_valid_rules(alloc, self, &shapes, self.rules.as_slice())?;
         Ok(

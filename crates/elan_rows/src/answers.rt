@@ -12,7 +12,7 @@ use std::alloc::Global;
 use std::test::Fail;
 
 // A term as the names of its operators, with arguments in brackets.
-fn write_term(
+pub fn write_term(
     alloc: Global,
     text: &mut String,
     described: &Described,
@@ -39,7 +39,7 @@ fn write_term(
 }
 
 // Each item, with the steps left behind a result.
-fn written(alloc: Global, described: &Described, items: &[Item]) -> Result<String, NoMemory> {
+pub fn written(alloc: Global, described: &Described, items: &[Item]) -> Result<String, NoMemory> {
     let mut text = String::new(alloc);
     for item in items {
         match item {
@@ -80,7 +80,7 @@ fn answered(
     written(alloc, described, items.as_slice())
 }
 
-fn unknown(alloc: Global) -> Result<String, NoMemory> {
+pub fn unknown(alloc: Global) -> Result<String, NoMemory> {
     let mut text = String::new(alloc);
     text.push('?')?;
     Ok(text)

@@ -3,8 +3,6 @@
 
 mod copies;
 mod order;
-#[cfg(test)]
-mod tests;
 mod tree;
 
 pub use copies::{shared, to_owned};

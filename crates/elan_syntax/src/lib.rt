@@ -9,15 +9,11 @@ mod imports;
 pub mod laws;
 mod lpl;
 mod modules;
-#[cfg(test)]
-mod numbered;
 mod operators;
 mod parameters;
 mod parts;
 mod rules;
 mod sorts;
-#[cfg(test)]
-mod tests;
 mod variables;
 
 pub use elan_phrases::Span;

@@ -12,8 +12,6 @@ mod rows;
 mod shard;
 mod spot;
 mod table;
-#[cfg(test)]
-mod tests;
 
 pub use name::Name;
 pub use node::Node;

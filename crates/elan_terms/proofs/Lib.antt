@@ -10,5 +10,7 @@ pub mod Induction
 pub mod NodeLemmas
 pub mod OrderLaws
 pub mod Sorting
+pub mod PartLemmas
+pub mod SublistLemmas
 pub mod TestLemmas
 mod Examples

@@ -1,5 +1,5 @@
 -- Terms: their sort, depth, order and canonical form.
-use Rattle.std.specs.Prelude.{ℕ, suc, ◌+◌, max, ℤ, Bool, false, if◌then◌else◌, ◌==◌, Option, Some, None, List, [], ◌∷◌, length, slice_get}
+use Rattle.std.specs.Prelude.{ℕ, ◌+◌, max, ℤ, Bool, false, if◌then◌else◌, ◌==◌, Option, Some, None, List, [], ◌∷◌, length, slice_get}
 use Rattle.std.specs.declared.cmp.Ordering.{Ordering}
 use Rattle.std.specs.declared.cmp.Ordering.TheVariants.{Less, Greater}
 use Rattle.std.specs.Ordering.{nat_cmp, int_cmp, ordering_then, is_gt, is_eq}
@@ -72,11 +72,6 @@ arms_under op t = case_term (λ _. t ∷ []) (λ op' us. if op.0 == op'.0 then u
 abbrev pub put_in : Term → List Term → List Term
 put_in t [] = t ∷ []
 put_in t (u ∷ us) = if is_gt (order t u) then u ∷ put_in t us else t ∷ u ∷ us
-
--- how many terms stand before the first that is not smaller
-abbrev pub smaller_first : Term → List Term → ℕ
-smaller_first t [] = 0
-smaller_first t (u ∷ us) = if is_gt (order t u) then suc (smaller_first t us) else 0
 
 -- each term put into those that come after it
 abbrev pub ascending : List Term → List Term

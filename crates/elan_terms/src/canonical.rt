@@ -1,12 +1,13 @@
 //! Canonical forms.
 
-ghost use Rattle.std.specs.Prelude.{◌≡◌, ◌++◌, map, IfOk};
+ghost use Rattle.std.specs.Prelude.{◌≡◌, ◌++◌, map, reverse, IfOk, OnOk};
 ghost use Rattle.std.specs.List.{flat_map};
 ghost use Rattle.elan_terms.specs.Term as spec;
 
 use crate::{NoMemory, OpId, Shapes, Term, TermNode, compare, copy, copy_onto};
 use sqlite_items::Items;
 use std::alloc::Global;
+use std::cmp::Ordering;
 
 /// Whether an operator is there and is associative and commutative.
 #[tactic(auto, unfolding(crate::specs::Term::is_ac))]
@@ -53,18 +54,26 @@ fn all_arms_onto(
     Ok(())
 }
 
-/// Where a term goes among ascending ones: before the first that is not smaller.
-fn place(term: &Term, terms: &[Term]) -> usize
-    ensures { result ≡ spec.smaller_first term.now terms.now }
+/// The terms from the last to the first.
+fn turned(alloc: Global, terms: Items<Term>) -> Result<Vec<Term>, NoMemory>
+    ensures { IfOk result (λ ts. ts.items ≡ reverse terms) }
 {
-    let mut at = 0;
-    for other in terms {
-        if !compare(term, other).is_gt() {
-            return at;
-        }
-        at += 1;
+    let mut left = terms;
+    let mut out = Vec::new(alloc);
+    while let Some(term) = left.pop() {
+        out.push(term)?;
     }
-    at
+    Ok(out)
+}
+
+/// Puts the terms into ascending order; equal ones all stay.
+fn sort(terms: &mut Vec<Term>) -> Result<(), NoMemory>
+    ensures { OnOk result (terms.new.items ≡ spec.ascending terms.old.items) }
+{
+    let by_order = |a: &Term, b: &Term| -> Ordering
+        ensures { result ≡ spec.order a.now b.now }
+    { compare(a, b) };
+    terms.sort_by(by_order)
 }
 
 /// The terms in ascending order; equal ones all stay.
@@ -72,12 +81,8 @@ fn place(term: &Term, terms: &[Term]) -> usize
 pub(crate) fn ascending(alloc: Global, terms: Items<Term>) -> Result<Items<Term>, NoMemory>
     ensures { IfOk result (λ ts. ts ≡ spec.ascending terms) }
 {
-    let mut left = terms;
-    let mut sorted = Vec::new(alloc);
-    while let Some(term) = left.pop() {
-        let at = place(&term, sorted.as_slice());
-        sorted.insert(at, term)?;
-    }
+    let mut sorted = turned(alloc, terms)?;
+    sort(&mut sorted)?;
     Ok(Items::from_vec(sorted))
 }
 

@@ -11,8 +11,6 @@ mod order;
 mod pieces;
 mod settled;
 mod sorts;
-#[cfg(test)]
-mod tests;
 mod tree;
 mod valid;
 

@@ -8,8 +8,6 @@ mod refusal;
 mod standard;
 mod steady;
 mod stream;
-#[cfg(test)]
-mod tests;
 mod whole;
 
 pub use fault::{ReadRefusal, WriteFault};

@@ -17,6 +17,4 @@ mod replace;
 mod settle;
 mod shared;
 mod tally;
-#[cfg(test)]
-mod tests;
 pub mod tree;

@@ -1,6 +1,6 @@
 use Rattle.std.proofs.Common.{arith}
 use Rattle.std.proofs.lemmas.Grind.{common_steps}
-use Rattle.elan_terms.proofs.MatchLemmas.{pieces-app}
+use Rattle.elan_terms.proofs.SublistLemmas.{pieces-app}
 use Rattle.elan_terms.proofs.pieces.+pieces.Goals as goal
 
 pub pieces_onto-returns-in_ok-pieces_at_onto-in-App : goal.pieces_onto-returns-in_ok-pieces_at_onto-in-App

@@ -1,6 +1,6 @@
 use Rattle.std.proofs.Common.{◌≡◌, ◌++◌, drop}
 use Rattle.std.specs.List.{flat_map}
-use Rattle.elan_terms.specs.Match as spec
+use Rattle.elan_terms.specs.Sublists as spec
 use Rattle.elan_terms.specs.Weight.{weight, weights}
 use Rattle.elan_terms.proofs.pieces.+pieces.Given as goal
 

@@ -1,5 +1,5 @@
 use Rattle.std.proofs.Common.{◌≡◌, ◌++◌, length}
-use Rattle.elan_terms.specs.Match.{once}
+use Rattle.elan_terms.specs.Sublists.{once}
 use Rattle.elan_terms.proofs.pieces.once_onto.Given as goal
 
 -- what is there and each term left once are what there was and each term once

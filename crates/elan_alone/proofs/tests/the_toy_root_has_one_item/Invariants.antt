@@ -1,5 +1,0 @@
-use Rattle.elan_alone.proofs.tests.the_toy_root_has_one_item.Given as goal
-
--- the posts that were just made
-abbrev pub ghosts-finished : goal.ghosts-finished
-ghosts-finished g a = record { shelves = a.blank }

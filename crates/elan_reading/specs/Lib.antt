@@ -1,0 +1,5 @@
+pub mod Edge
+pub mod Lexemes
+pub mod Readings
+pub mod Answers
+pub mod Operands

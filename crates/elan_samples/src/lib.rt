@@ -1,0 +1,13 @@
+//! Tests of the crates of terms and programs: calls with ample memory, and what no clause says.
+#![tactic(auto)]
+
+#[cfg(test)]
+mod equality;
+#[cfg(test)]
+mod fits;
+#[cfg(test)]
+mod operations;
+#[cfg(test)]
+mod programs;
+#[cfg(test)]
+mod terms;

@@ -1,5 +1,0 @@
-use Rattle.elan_tree.proofs.tests.a_tree_of_limit_one_is_over_after_one_item.Given as goal
-
--- the posts that were just made
-abbrev pub ghosts-script : goal.ghosts-script
-ghosts-script g a = record { shelves = a.blank }

@@ -1,5 +1,0 @@
-use Rattle.elan_tree.proofs.tests.the_first_item_cuts_the_other_places.Given as goal
-
--- the posts that were just made
-abbrev pub ghosts-script : goal.ghosts-script
-ghosts-script g a = record { shelves = a.blank }

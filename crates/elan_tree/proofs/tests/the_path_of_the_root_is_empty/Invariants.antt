@@ -1,5 +1,0 @@
-use Rattle.elan_tree.proofs.tests.the_path_of_the_root_is_empty.Given as goal
-
--- the posts that were just made
-abbrev pub ghosts-path_after : goal.ghosts-path_after
-ghosts-path_after g a = record { shelves = a.blank }

@@ -6,8 +6,6 @@ mod edge;
 pub mod laws;
 mod lexeme;
 mod sought;
-#[cfg(test)]
-mod tests;
 
 pub use edge::{Position, Side, counted, fits, is_injection, side_of, tie};
 pub use lexeme::{Lexeme, Variable};

@@ -10,4 +10,6 @@ mod operations;
 #[cfg(test)]
 mod programs;
 #[cfg(test)]
+mod readings;
+#[cfg(test)]
 mod terms;

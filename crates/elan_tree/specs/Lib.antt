@@ -19,4 +19,3 @@ pub mod Backwards
 pub mod Fronts
 pub mod Shape
 pub mod Falls
-pub mod Toy

@@ -1,6 +1,6 @@
 //! A toy root is finished.
 ghost use Rattle.std.specs.Prelude.{◌≡◌, IfOk};
-ghost use Rattle.elan_alone.specs.Toy.{toy_sense};
+ghost use Rattle.elan_tree_samples.specs.Single.{toy_sense};
 ghost use Rattle.elan_tree.specs.Growths.{GrowthOf};
 
 use elan_alone::finish;

@@ -1,6 +1,6 @@
 //! A toy branch, and what the tree answers to its growths.
 ghost use Rattle.std.specs.Prelude.{◌≡◌, ◌++◌, IfOk};
-ghost use Rattle.elan_tree.specs.Toy.{toy_items, toy_after, either_list, toy_sense, Has};
+ghost use Rattle.elan_tree_samples.specs.Toy.{toy_items, toy_after, either_list, toy_sense, Has};
 
 use elan_tree::branch::{Branch, Grown, Growth, Resumed};
 use elan_tree::name::Name;

@@ -1,7 +1,7 @@
 //! The edge rule at worked operators.
 
-use crate::laws::{operands_follow_the_side, readings_have_their_sort};
-use crate::{Position, Side, counted, fits, is_injection, side_of, tie};
+use elan_reading::laws::{operands_follow_the_side, readings_have_their_sort};
+use elan_reading::{Position, Side, counted, fits, is_injection, side_of, tie};
 use elan_program::{Assoc, Operator, Piece};
 use elan_terms::SortId;
 use elan_text::{Name, NoMemory};

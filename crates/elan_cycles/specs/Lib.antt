@@ -1,0 +1,3 @@
+pub mod Edges
+pub mod Search
+pub mod Marks

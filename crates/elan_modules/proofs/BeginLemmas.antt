@@ -4,7 +4,7 @@ use Rattle.elan_text.specs.declared.refusal.Code.TheVariants.{E05}
 use Rattle.elan_text.specs.declared.refusal.Refusal.{Refusal}
 use Rattle.elan_modules.specs.declared.flat.FlattenRefusal.{FlattenRefusal}
 use Rattle.elan_modules.specs.declared.flat.FlattenRefusal.TheVariants.{Refused, LoaderFault, NoMemory}
-use Rattle.elan_modules.specs.declared.walk.Walk.{Walk}
+use Rattle.elan_modules.specs.Walking.{Walk}
 use Rattle.elan_modules.specs.declared.walk.Reference.{Reference}
 use Rattle.elan_modules.specs.declared.walk.Opening.{Opening}
 use Rattle.elan_modules.specs.declared.walk.Spot.{Spot}

@@ -7,7 +7,7 @@ use Rattle.elan_modules.specs.declared.flat.LoadedText.{LoadedText}
 use Rattle.elan_modules.specs.declared.flat.Flat.{Flat}
 use Rattle.elan_modules.specs.declared.flat.FlattenRefusal.{FlattenRefusal}
 use Rattle.elan_modules.specs.declared.flat.FlattenRefusal.TheVariants.{Refused, LoaderFault, NoMemory}
-use Rattle.elan_modules.specs.declared.walk.Walk.{Walk}
+use Rattle.elan_modules.specs.Walking.{Walk}
 use Rattle.elan_modules.specs.Modules.{references_of}
 use Rattle.elan_modules.specs.Visits.{Library, Halted, Refuses, Silent, Walked, visit, visit_all, named_twice, taken_at, start, flat_of, walked, flattened}
 use Rattle.elan_modules.specs.Walks.{Shelf, Comes, Walks, Stays}

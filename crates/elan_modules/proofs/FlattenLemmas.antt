@@ -12,7 +12,7 @@ use Rattle.elan_modules.specs.declared.flat.LoadedText.{LoadedText}
 use Rattle.elan_modules.specs.declared.flat.Flat.{Flat}
 use Rattle.elan_modules.specs.declared.flat.FlattenRefusal.{FlattenRefusal}
 use Rattle.elan_modules.specs.declared.flat.FlattenRefusal.TheVariants.{Refused, LoaderFault, NoMemory}
-use Rattle.elan_modules.specs.declared.walk.Walk.{Walk}
+use Rattle.elan_modules.specs.Walking.{Walk}
 use Rattle.elan_modules.specs.declared.walk.Reference.{Reference}
 use Rattle.elan_modules.specs.declared.walk.Standard.{Standard}
 use Rattle.elan_loaders.specs.Libraries.{Library as Texts, Told, Has, HasNone, Untold, found_or, first_told}

@@ -10,3 +10,4 @@ pub mod Rows
 pub mod SortLemmas
 pub mod VisitLemmas
 pub mod WalkLemmas
+pub mod Indexes

@@ -25,7 +25,7 @@ use Rattle.elan_modules.specs.declared.flat.LoadedText.{LoadedText}
 use Rattle.elan_modules.specs.declared.flat.FlattenRefusal.{FlattenRefusal}
 use Rattle.elan_modules.specs.declared.flat.FlattenRefusal.TheVariants.{Refused, LoaderFault, NoMemory}
 use Rattle.elan_loaders.specs.declared.loader.Fetched.TheVariants as fetch
-use Rattle.elan_modules.specs.declared.walk.Walk.{Walk}
+use Rattle.elan_modules.specs.Walking.{Walk}
 use Rattle.elan_modules.specs.declared.walk.Reference.{Reference}
 use Rattle.elan_loaders.specs.Libraries.{Told, Has, HasNone, Untold, first_told, AnswersAll, NoneHas, EachRose, SomeRose}
 use Rattle.elan_modules.specs.Modules.{Found, Opened, outlined, cut, opened, is_name, is_word_byte}

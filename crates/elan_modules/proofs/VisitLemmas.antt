@@ -8,7 +8,7 @@ use Rattle.elan_text.specs.declared.name.Name.{Name}
 use Rattle.elan_text.specs.declared.refusal.Code.TheVariants.{E08, E14}
 use Rattle.elan_modules.specs.declared.flat.FlattenRefusal.{FlattenRefusal}
 use Rattle.elan_modules.specs.declared.flat.FlattenRefusal.TheVariants.{NoMemory}
-use Rattle.elan_modules.specs.declared.walk.Walk.{Walk}
+use Rattle.elan_modules.specs.Walking.{Walk}
 use Rattle.elan_modules.specs.declared.walk.Reference.{Reference}
 use Rattle.elan_modules.specs.declared.walk.Opening.{Opening}
 use Rattle.elan_modules.specs.Visits.{Library, Visiting, next, begun, completed, finished, is_named_by, is_instance, most_instances, refusal_at, refused_at, visit_all, visit_step, visit}

@@ -1,5 +1,6 @@
 pub mod Sorts
 pub mod Modules
+pub mod Walking
 pub mod Finds
 pub mod Readings
 pub mod Openings

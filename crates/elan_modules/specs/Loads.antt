@@ -2,7 +2,7 @@
 use Rattle.std.specs.Prelude.{◌≡◌, List, [], ◌∷◌, ◌++◌, length}
 use Rattle.elan_syntax.specs.declared.parts.ModuleOutline.{ModuleOutline}
 use Rattle.elan_modules.specs.declared.flat.LoadedText.{LoadedText}
-use Rattle.elan_modules.specs.declared.walk.Walk.{Walk}
+use Rattle.elan_modules.specs.Walking.{Walk}
 use Rattle.elan_modules.specs.declared.walk.Opening.{Opening}
 use Rattle.elan_modules.specs.Modules.{Found}
 use Rattle.elan_modules.specs.Visits.{Begun}

@@ -24,7 +24,7 @@ use Rattle.elan_modules.specs.declared.flat.LoadedText.{LoadedText}
 use Rattle.elan_modules.specs.declared.walk.Reference.{Reference}
 use Rattle.elan_modules.specs.declared.walk.Standard.{Standard}
 use Rattle.elan_modules.specs.declared.walk.Standard.TheVariants as standard
-use Rattle.elan_modules.specs.Sorts.{word_at, place_at, written, names_in, argument_spans}
+use Rattle.elan_modules.specs.Sorts.{word_at, place_at, written, names_in, argument_spans, most_names}
 
 -- ---- built-in modules
 
@@ -108,10 +108,6 @@ section_sorts text (section.Strategies sort definitions) = sort ∷ []
 abbrev pub sort_spans : LoadedText → List Section → List Span
 sort_spans text [] = []
 sort_spans text (s ∷ ss) = section_sorts text s ++ sort_spans text ss
-
--- how many names a sort expression may have
-abbrev pub most_names : ℕ
-most_names = 64
 
 -- the place of the first sort expression that has too many names once the parameters are replaced
 unfoldable pub first_long : LoadedText → List Name → List Name → List Span → Option Place

@@ -45,12 +45,15 @@ value_of [] sorts word = word
 value_of (p ∷ ps) [] word = word
 value_of (p ∷ ps) (s ∷ ss) word = cond (bytes_eq p.bytes word) s.bytes (value_of ps ss word)
 
--- The written form of a sort expression, which is the bytes of its tokens with nothing between them. A parameter is
--- replaced where it stands as a whole sort name: no bracket follows it.
+-- what is written for a word: a parameter is replaced where it stands as a whole sort name, so that no bracket follows it
+abbrev pub value_at : List Name → List Name → List ℕ → List (List ℕ) → List ℕ
+value_at parameters sorts word words = cond (opens words) word (value_of parameters sorts word)
+
+-- The written form of a sort expression, which is the bytes of its tokens with nothing between them, with its parameters
+-- replaced.
 unfoldable pub replaced : List Name → List Name → List (List ℕ) → List ℕ
 replaced parameters sorts [] = []
-replaced parameters sorts (word ∷ words) =
-    cond (opens words) word (value_of parameters sorts word) ++ replaced parameters sorts words
+replaced parameters sorts (word ∷ words) = value_at parameters sorts word words ++ replaced parameters sorts words
 
 -- the written form of the sort expression of a span
 abbrev pub written : LoadedText → List Name → List Name → Span → List ℕ
@@ -60,6 +63,15 @@ written text parameters sorts at = replaced parameters sorts (words_in text at)
 unfoldable pub names_in : List ℕ → ℕ
 names_in [] = 1
 names_in (b ∷ bs) = cond (b == 91 || b == 44) (suc (names_in bs)) (names_in bs)
+
+-- A sort expression has at most so many names.
+abbrev pub most_names : ℕ
+most_names = 64
+
+-- how many `[` and `,` there are
+unfoldable pub separators : List ℕ → ℕ
+separators [] = 0
+separators (b ∷ bs) = cond (b == 91 || b == 44) (suc (separators bs)) (separators bs)
 
 -- ---- the arguments of a reference
 

@@ -18,9 +18,10 @@ use Rattle.elan_modules.specs.declared.flat.Origin.{Origin}
 use Rattle.elan_modules.specs.declared.flat.Origin.TheVariants.{Builtin, Text}
 use Rattle.elan_modules.specs.declared.flat.Instance.{Instance}
 use Rattle.elan_modules.specs.declared.flat.Flat.{Flat}
-use Rattle.elan_modules.specs.declared.walk.Walk.{Walk}
+use Rattle.elan_modules.specs.Walking.{Walk}
 use Rattle.elan_modules.specs.declared.walk.Reference.{Reference}
 use Rattle.elan_modules.specs.declared.walk.Standard.{Standard}
+use Rattle.elan_numbers.specs.Numbering.{is_called}
 use Rattle.elan_loaders.specs.Libraries.{Told, Has, HasNone, Untold}
 use Rattle.elan_modules.specs.Sorts.{place_at}
 use Rattle.elan_modules.specs.Modules.{Found, find, name_of, standard_of, parameter_count, standard_imports, parameters_of, sort_spans, first_long, references_of, is_name, imports_of, refusal_in, Opened, opened}
@@ -177,10 +178,13 @@ is_named_by r name = bytes_eq r.name.bytes name.bytes
 abbrev pub is_instance : Reference → Instance → Bool
 is_instance r i = bytes_eq r.name.bytes i.name.bytes && same_names r.args i.args
 
+-- the instance of a reference, whose module is there
+abbrev pub instance_of : Reference → Origin → Instance
+instance_of r origin = record { name = r.name; args = r.args; origin = origin }
+
 -- the instance is finished
 abbrev pub finished : Reference → Origin → Walk → Walk
-finished r origin walk =
-    record { texts = walk.texts; done = walk.done ++ record { name = r.name; args = r.args; origin = origin } ∷ [] }
+finished r origin walk = record { texts = walk.texts; done = walk.done ++ instance_of r origin ∷ [] }
 
 -- its imports are visited with its name on the path, and then it is finished
 abbrev pub completed : Visiting → List Name → Reference → Begun → Walked
@@ -209,19 +213,17 @@ abbrev pub is_some : Option Standard → Bool
 is_some None = false
 is_some (Some built_in) = true
 
--- a module has this name
-abbrev pub is_called : LoadedText → List ℕ → ModuleOutline → Bool
-is_called stream name outline = bytes_eq (name_of stream outline) name
-
 -- the name is that of one of these modules, or of one that is built in
-abbrev pub is_taken : LoadedText → List ModuleOutline → List ℕ → Bool
-is_taken stream before name = list_any (is_called stream name) before || is_some (standard_of name)
+abbrev pub is_taken : List Name → List ℕ → Bool
+is_taken before name = list_any (is_called name) before || is_some (standard_of name)
 
--- the place of the first module whose name is taken by an earlier one, or by one that is built in; these are before them
-unfoldable pub named_twice : LoadedText → List ModuleOutline → List ModuleOutline → Option Place
+-- the place of the first module whose name is taken by an earlier one, or by one that is built in; these are the names of
+-- those before them
+unfoldable pub named_twice : LoadedText → List Name → List ModuleOutline → Option Place
 named_twice stream before [] = None
 named_twice stream before (m ∷ ms) =
-    cond (is_taken stream before (name_of stream m)) (Some (place_at stream m.name)) (named_twice stream (before ++ m ∷ []) ms)
+    cond (is_taken before (name_of stream m)) (Some (place_at stream m.name))
+    (named_twice stream (before ++ record { bytes = name_of stream m } ∷ []) ms)
 
 -- where a stream begins: nothing is loaded and nothing is finished
 abbrev pub start : LoadedText → Walk

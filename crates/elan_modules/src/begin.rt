@@ -16,7 +16,8 @@ use crate::modules::{
     standard_imports, standard_of,
 };
 use crate::opening::is_name;
-use crate::walk::{Opening, Reference, Spot, Standard, Walk};
+use crate::progress::Walk;
+use crate::walk::{Opening, Reference, Spot, Standard};
 use elan_loaders::Loader;
 use elan_syntax::ModuleOutline;
 use elan_text::{Code, NoMemory, Place, Refusal};
@@ -39,7 +40,7 @@ fn text_imports(
     }
     let spans = sort_spans(alloc, text, outline.sections.as_slice())?;
     let (parameters, args) = (parameters.as_slice(), reference.args.as_slice());
-    match first_long(alloc, text, parameters, args, spans.as_slice())? {
+    match first_long(text, parameters, args, spans.as_slice()) {
         Some(at) => Err(long_at(alloc, text, at)),
         None => {
             let found = imports_of(alloc, text, parameters, args, outline.sections.as_slice())?;
@@ -116,7 +117,7 @@ fn begin_found(
     ensures { (found : modules.Found) → Stands walk.now.texts spot found
         → Stays (begun_with walk.now) result (spec.begun_text reference.now (walk.now, found)) }
 {
-    let Some(text) = walk.texts.get(spot.text) else {
+    let Some(text) = walk.texts().get(spot.text) else {
         unreachable!()
     };
     let Some(outline) = text.modules.get(spot.module) else {
@@ -143,7 +144,7 @@ fn begin_loaded<L: Loader>(
 {
     let text = load(alloc, walk, loaders, reference)?;
     let opening = begin_new(alloc, walk, reference, &text)?;
-    walk.texts.push(text)?;
+    walk.add_text(text)?;
     Ok(opening)
 }
 
@@ -164,7 +165,7 @@ fn begin_new(
     };
     let imports = text_imports(alloc, reference, text, outline)?;
     let origin = origin_at(Spot {
-        text: walk.texts.len(),
+        text: walk.texts().len(),
         module: 0,
     })?;
     Ok(Opening { origin, imports })
@@ -182,7 +183,7 @@ fn begin_text<L: Loader>(
         (shelf L.library L.misses L.failures loaders.old) (shelf L.library L.misses L.failures loaders.new)
         (begun_with walk.new) result }
 {
-    match find(walk.texts.as_slice(), reference.name.as_bytes()) {
+    match find(walk.texts(), reference.name.as_bytes()) {
         Some(spot) => begin_found(alloc, walk, reference, spot),
         None => {
             if is_name(reference.name.as_bytes()) {

@@ -13,12 +13,14 @@ ghost use Rattle.elan_modules.specs.Loads.{itself};
 use crate::copies::{copy_lpl, copy_modules};
 use crate::flat::{Flat, FlattenRefusal, LoadedText};
 use crate::modules::{add_references, name_of, standard_of};
-use crate::sorts::{part, place_at};
+use crate::progress::Walk;
+use crate::sorts::place_at;
 use crate::visit::visit_all;
-use crate::walk::{Reference, Walk};
+use crate::walk::Reference;
 use elan_lexer::Token;
 use elan_loaders::Loader;
-use elan_syntax::{ModuleOutline, Outline};
+use elan_numbers::Numbers;
+use elan_syntax::Outline;
 use elan_text::{Code, NoMemory, Place, Refusal};
 use sqlite_items::Items;
 use std::alloc::Global;
@@ -85,43 +87,29 @@ fn stream_of(
     })
 }
 
-/// Whether one of these modules has a name.
-fn is_called(stream: &LoadedText, name: &[u8], modules: &[ModuleOutline]) -> bool
-    ensures { result ≡ list_any (spec.is_called stream.now name.now) modules.now }
+/// Whether a name is one of these or that of a built-in module.
+fn is_taken(before: &Numbers, name: &[u8]) -> bool
+    ensures { result ≡ spec.is_taken before.now name.now }
 {
-    let mut left = modules;
-    'modules: while let [first, rest @ ..] = left {
-        if name_of(stream, first) == name {
-            return true;
-        }
-        left = rest;
-    }
-    false
-}
-
-/// Whether a name is taken by one of these modules or by one that is built in.
-fn is_taken(stream: &LoadedText, before: &[ModuleOutline], name: &[u8]) -> bool
-    ensures { result ≡ spec.is_taken stream.now before.now name.now }
-{
-    is_called(stream, name, before) || standard_of(name).is_some()
+    before.number_of(name).is_some() || standard_of(name).is_some()
 }
 
 /// The place of the first module whose name is taken.
-#[tactic(auto, unfolding(crate::specs::Visits::named_twice), using(crate::proofs::EntryLemmas::take_next))]
-fn named_twice(stream: &LoadedText) -> Option<Place>
-    ensures { result ≡ spec.named_twice stream.now [] stream.now.modules }
+#[tactic(auto, unfolding(crate::specs::Visits::named_twice), using(crate::proofs::Indexes::named_next))]
+fn named_twice(alloc: Global, stream: &LoadedText) -> Result<Option<Place>, NoMemory>
+    ensures { IfOk result (λ at. at ≡ spec.named_twice stream.now [] stream.now.modules) }
 {
-    let modules = stream.modules.as_slice();
-    let mut count = 0;
-    let mut left = modules;
+    let mut names = Numbers::new(alloc);
+    let mut left = stream.modules.as_slice();
     'modules: while let [first, rest @ ..] = left {
-        if is_taken(stream, part(modules, 0, count), name_of(stream, first)) {
-            return Some(place_at(stream, first.name));
+        let name = name_of(stream, first);
+        if is_taken(&names, name) {
+            return Ok(Some(place_at(stream, first.name)));
         }
-        count += 1;
+        names.add(alloc, name)?;
         left = rest;
     }
-    None
+    Ok(None)
 }
 
 /// The references of the `LPL` import.
@@ -139,24 +127,12 @@ fn asked(
     Ok(found)
 }
 
-/// A walk that begins.
-fn start(alloc: Global, stream: LoadedText) -> Result<Walk, NoMemory>
-    ensures { IfOk result (λ walk. walk ≡ spec.start stream) }
-{
-    let mut texts = Items::new(alloc);
-    texts.push(stream)?;
-    Ok(Walk {
-        texts,
-        done: Items::new(alloc),
-    })
-}
-
 /// The flat program of a walk that has come to its end.
 fn flat_of(alloc: Global, outline: &Outline, walk: Walk) -> Result<Flat, NoMemory>
     ensures { IfOk result (λ flat. flat ≡ spec.flat_of outline.now.lpl outline.now.query walk) }
 {
     let lpl = copy_lpl(alloc, &outline.lpl)?;
-    let Walk { texts, done } = walk;
+    let (texts, done) = walk.into_parts();
     Ok(Flat {
         texts,
         instances: done,
@@ -177,7 +153,8 @@ fn walked<L: Loader>(
         (shelf L.library L.misses L.failures loaders.old) (shelf L.library L.misses L.failures loaders.new)
         itself result }
 {
-    if let Some(at) = named_twice(&stream) {
+    let twice = named_twice(alloc, &stream)?;
+    if let Some(at) = twice {
         return Err(FlattenRefusal::Refused(Refusal {
             code: Code::E09,
             at,
@@ -185,7 +162,7 @@ fn walked<L: Loader>(
         }));
     }
     let imports = asked(alloc, &stream, outline)?;
-    let mut walk = start(alloc, stream)?;
+    let mut walk = Walk::start(alloc, stream)?;
     match visit_all(alloc, &mut walk, loaders, &[], imports.as_slice()) {
         Ok(()) => Ok(walk),
         Err(why) => Err(why),

@@ -10,6 +10,7 @@ pub mod laws;
 mod load;
 mod modules;
 mod opening;
+mod progress;
 mod sorts;
 mod visit;
 mod walk;

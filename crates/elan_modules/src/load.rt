@@ -9,7 +9,8 @@ ghost use Rattle.elan_modules.specs.Loads.{HasOne, walk_with};
 use crate::flat::{FlattenRefusal, LoadedText};
 use crate::modules::{copy_name, copy_owner};
 use crate::opening::open;
-use crate::walk::{Reference, Walk};
+use crate::progress::Walk;
+use crate::walk::Reference;
 use elan_loaders::{Fetched, Loader, ask_all};
 use elan_text::{Code, Name, Place, Refusal};
 use std::alloc::Global;
@@ -54,7 +55,7 @@ fn admit(
     ensures stays { Stays (walk_with walk.now) result (spec.loaded walk.now name.now bytes.items) }
     ensures one { IfOk result (λ text. HasOne text.modules) }
 {
-    if is_past(walk.texts.as_slice(), bytes.len()) {
+    if is_past(walk.texts(), bytes.len()) {
         return Err(too_long(alloc, name));
     }
     open(alloc, name, bytes)

@@ -6,15 +6,12 @@ ghost use Rattle.elan_modules.specs.Sorts as sorts;
 ghost use Rattle.elan_modules.specs.Modules as spec;
 
 use crate::flat::LoadedText;
-use crate::sorts::{argument_spans, names_in, place_at, word_at, written};
+use crate::sorts::{argument_spans, is_long, place_at, word_at, written};
 use crate::walk::{Reference, Standard};
 use elan_syntax::{ModuleOutline, OpDecl, Section, Span, Vars};
 use elan_text::{Name, NoMemory, Place};
 use sqlite_items::Items;
 use std::alloc::Global;
-
-/// How many names a sort expression may have.
-const MOST_NAMES: usize = 64;
 
 /// The built-in module of a name.
 pub(crate) fn standard_of(name: &[u8]) -> Option<Standard>
@@ -203,23 +200,21 @@ fn add_variables(found: &mut Items<Span>, sort: Span, vars: &[Vars]) -> Result<(
 /// The place of the first sort expression that has too many names once the parameters are replaced.
 #[tactic(auto, unfolding(crate::specs::Modules::first_long))]
 pub(crate) fn first_long(
-    alloc: Global,
     text: &LoadedText,
     parameters: &[Name],
     sorts: &[Name],
     spans: &[Span],
-) -> Result<Option<Place>, NoMemory>
-    ensures { IfOk result (λ at. at ≡ spec.first_long text.now parameters.now sorts.now spans.now) }
+) -> Option<Place>
+    ensures { result ≡ spec.first_long text.now parameters.now sorts.now spans.now }
 {
     let mut left = spans;
     'spans: while let [span, rest @ ..] = left {
-        let name = written(alloc, text, parameters, sorts, *span)?;
-        if names_in(name.as_bytes()) > MOST_NAMES {
-            return Ok(Some(place_at(text, span.first)));
+        if is_long(text, parameters, sorts, *span) {
+            return Some(place_at(text, span.first));
         }
         left = rest;
     }
-    Ok(None)
+    None
 }
 
 /// A reference with its arguments, once the parameters are replaced.

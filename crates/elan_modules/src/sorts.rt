@@ -1,6 +1,6 @@
 //! Sort expressions by their tokens, and the sorts that stand for the parameters in them.
 
-ghost use Rattle.std.specs.Prelude.{◌≡◌, ◌≤◌, ◌<◌, ◌++◌, ◌+◌, ℕ, List, length, IfOk, OnOk, Some, slice_get, slice_range, map};
+ghost use Rattle.std.specs.Prelude.{◌≡◌, ◌≤◌, ◌<◌, ◌++◌, ◌+◌, ℕ, List, length, IfOk, OnOk, Some, slice_get, slice_range, nat_lt, map};
 ghost use Rattle.elan_lexer.specs.Text.{token_text};
 ghost use Rattle.elan_modules.specs.Sorts as spec;
 
@@ -10,6 +10,9 @@ use elan_syntax::Span;
 use elan_text::{Name, NoMemory, Place};
 use sqlite_items::Items;
 use std::alloc::{AllocError, Global};
+
+/// How many names a sort expression may have.
+const MOST_NAMES: usize = 64;
 
 /// The items from one number up to another, or those of them that there are.
 pub fn part<T>(items: &[T], first: usize, past: usize) -> &[T]
@@ -76,6 +79,25 @@ fn value_of<'a>(parameters: &'a [Name], sorts: &'a [Name], word: &'a [u8]) -> &'
     word
 }
 
+/// What is written for a token of a sort expression, behind which these stand.
+fn value_at<'a>(
+    bytes: &'a [u8],
+    parameters: &'a [Name],
+    sorts: &'a [Name],
+    token: &Token,
+    rest: &[Token],
+) -> &'a [u8]
+    ensures { result.now ≡ spec.value_at parameters.now sorts.now
+        (token_text bytes.now token.now) (map (token_text bytes.now) rest.now) }
+{
+    let word = word(bytes, token);
+    if opens(bytes, rest) {
+        word
+    } else {
+        value_of(parameters, sorts, word)
+    }
+}
+
 /// The written form of the sort expression of a span, with the parameters replaced.
 pub fn written(
     alloc: Global,
@@ -113,23 +135,50 @@ fn write_words(
 {
     let mut left = tokens;
     'words: while let [token, rest @ ..] = left {
-        let word = word(bytes, token);
-        if opens(bytes, rest) {
-            found.extend_from_slice(word)?;
-        } else {
-            found.extend_from_slice(value_of(parameters, sorts, word))?;
-        }
+        found.extend_from_slice(value_at(bytes, parameters, sorts, token, rest))?;
         left = rest;
     }
     Ok(())
 }
 
-/// How many names a written form has.
-#[tactic(auto, unfolding(crate::specs::Sorts::names_in))]
-pub(crate) fn names_in(written: &[u8]) -> usize
-    ensures { result ≡ spec.names_in written.now }
+/// Whether a sort expression has too many names once the parameters are replaced. It is not written for this.
+pub(crate) fn is_long(text: &LoadedText, parameters: &[Name], sorts: &[Name], span: Span) -> bool
+    ensures { result ≡ nat_lt spec.most_names
+        (spec.names_in (spec.written text.now parameters.now sorts.now span)) }
 {
-    let mut count = 1;
+    let tokens = part(
+        text.tokens.as_slice(),
+        span.first as usize,
+        span.past as usize,
+    );
+    has_many(text.bytes.as_slice(), parameters, sorts, tokens)
+}
+
+/// Whether what is written for these tokens has too many names.
+#[tactic(auto, unfolding(crate::specs::Sorts::replaced), using(crate::proofs::SortLemmas::separators_append, crate::proofs::SortLemmas::names_are))]
+fn has_many(bytes: &[u8], parameters: &[Name], sorts: &[Name], tokens: &[Token]) -> bool
+    ensures { result ≡ nat_lt spec.most_names (spec.names_in
+        (spec.replaced parameters.now sorts.now (map (token_text bytes.now) tokens.now))) }
+{
+    let mut count = 0;
+    let mut left = tokens;
+    'words: while let [token, rest @ ..] = left {
+        count += separators_in(value_at(bytes, parameters, sorts, token, rest));
+        if count >= MOST_NAMES {
+            return true;
+        }
+        left = rest;
+    }
+    false
+}
+
+/// How many `[` and `,` there are.
+#[tactic(auto, unfolding(crate::specs::Sorts::separators))]
+fn separators_in(written: &[u8]) -> usize
+    ensures value { result ≡ spec.separators written.now }
+    ensures few { result ≤ length written.now }
+{
+    let mut count = 0;
     let mut left = written;
     'bytes: while let [byte, rest @ ..] = left {
         if *byte == b'[' || *byte == b',' {
@@ -142,11 +191,7 @@ pub(crate) fn names_in(written: &[u8]) -> usize
 
 /// The arguments of a reference, in order.
 #[tactic(auto, using(crate::proofs::SortLemmas::drop_words))]
-pub fn argument_spans(
-    alloc: Global,
-    text: &LoadedText,
-    span: Span,
-) -> Result<Items<Span>, NoMemory>
+pub fn argument_spans(alloc: Global, text: &LoadedText, span: Span) -> Result<Items<Span>, NoMemory>
     ensures { IfOk result (λ spans. spans ≡ spec.argument_spans text.now span) }
 {
     let tokens = part(

@@ -7,10 +7,11 @@ ghost use Rattle.elan_modules.specs.Walks.{Walks, Stays, Is, shelf};
 ghost use Rattle.elan_modules.specs.Loads.{become};
 
 use crate::begin::begin;
-use crate::flat::{FlattenRefusal, Instance, Origin};
+use crate::flat::FlattenRefusal;
 use crate::load::refused_at;
 use crate::modules::copy_name;
-use crate::walk::{Reference, Walk};
+use crate::progress::{Walk, copied};
+use crate::walk::Reference;
 use elan_loaders::Loader;
 use elan_text::{Code, Name, NoMemory};
 use sqlite_items::Items;
@@ -18,24 +19,6 @@ use std::alloc::Global;
 
 /// How many instances there may be.
 const MOST_INSTANCES: usize = 256;
-
-/// Whether two lists of names are the same.
-fn same_names(one: &[Name], other: &[Name]) -> bool
-    ensures { result ≡ spec.same_names one.now other.now }
-{
-    let (mut left, mut right) = (one, other);
-    'names: while let [first, rest @ ..] = left {
-        let [second, others @ ..] = right else {
-            return false;
-        };
-        if first.as_bytes() != second.as_bytes() {
-            return false;
-        }
-        left = rest;
-        right = others;
-    }
-    right.is_empty()
-}
 
 /// Whether the name of a reference is on the path.
 fn is_on(path: &[Name], reference: &Reference) -> bool
@@ -47,24 +30,6 @@ fn is_on(path: &[Name], reference: &Reference) -> bool
             reference.name.as_bytes() == first.as_bytes() || is_on(rest, reference)
         }
     }
-}
-
-/// Whether the instance of a reference is among these.
-fn is_among(done: &[Instance], reference: &Reference) -> bool
-    ensures { result ≡ list_any (spec.is_instance reference.now) done.now }
-{
-    match done {
-        [] => false,
-        [first, rest @ ..] => is_instance(first, reference) || is_among(rest, reference),
-    }
-}
-
-/// Whether an instance is the one that a reference names.
-fn is_instance(instance: &Instance, reference: &Reference) -> bool
-    ensures { result ≡ spec.is_instance reference.now instance.now }
-{
-    reference.name.as_bytes() == instance.name.as_bytes()
-        && same_names(reference.args.as_slice(), instance.args.as_slice())
 }
 
 /// Whether so many instances on the path and finished are too many for one more.
@@ -81,33 +46,6 @@ fn extended(alloc: Global, path: &[Name], name: &Name) -> Result<Items<Name>, No
     let mut longer = copied(alloc, path)?;
     longer.push(copy_name(alloc, name)?)?;
     Ok(longer)
-}
-
-/// A copy of names.
-fn copied(alloc: Global, names: &[Name]) -> Result<Items<Name>, NoMemory>
-    ensures { IfOk result (λ copy. copy ≡ names.now) }
-{
-    let mut copy = Items::new(alloc);
-    let mut left = names;
-    'names: while let [first, rest @ ..] = left {
-        copy.push(copy_name(alloc, first)?)?;
-        left = rest;
-    }
-    Ok(copy)
-}
-
-/// Appends the instance of a reference to those that are finished.
-fn finish(
-    alloc: Global,
-    walk: &mut Walk,
-    reference: &Reference,
-    origin: Origin,
-) -> Result<(), NoMemory>
-    ensures { OnOk result (walk.new ≡ spec.finished reference.now origin walk.old) }
-{
-    let name = copy_name(alloc, &reference.name)?;
-    let args = copied(alloc, reference.args.as_slice())?;
-    walk.done.push(Instance { name, args, origin })
 }
 
 /// Visits a reference on a path of names.
@@ -127,10 +65,11 @@ pub(crate) fn visit<L: Loader>(
     if is_on(path, reference) {
         return Err(refused_at(alloc, Code::E08, reference));
     }
-    if is_among(walk.done.as_slice(), reference) {
+    let done = walk.is_finished(alloc, reference)?;
+    if done {
         return Ok(());
     }
-    if is_full(path.len(), walk.done.len()) {
+    if is_full(path.len(), walk.finished()) {
         return Err(refused_at(alloc, Code::E14, reference));
     }
     complete(alloc, walk, loaders, path, reference)
@@ -160,7 +99,7 @@ fn complete<L: Loader>(
         longer.as_slice(),
         opening.imports.as_slice(),
     )?;
-    finish(alloc, walk, reference, opening.origin)?;
+    walk.finish(alloc, reference, opening.origin)?;
     Ok(())
 }
 

@@ -1,17 +1,8 @@
-//! A walk through the imports: what was loaded and which instances were finished.
+//! What a walk through the imports handles: references, where modules are, and what is begun.
 
-use crate::flat::{Instance, LoadedText, Origin};
+use crate::flat::Origin;
 use elan_text::{Name, Place};
 use sqlite_items::Items;
-
-/// How far a walk through the imports came.
-#[derive(Debug, Drop)]
-pub struct Walk {
-    /// The stream first, and then the texts that were loaded, in that order.
-    pub texts: Items<LoadedText>,
-    /// The instances that were finished, in that order.
-    pub done: Items<Instance>,
-}
 
 /// A reference to a module with its sort arguments.
 #[derive(Debug, Drop)]

@@ -1,6 +1,7 @@
 use Rattle.std.proofs.Common.{sym, ◌∙◌, length}
 use Rattle.std.proofs.lemmas.List.{take_rest}
 use Rattle.elan_modules.proofs.VisitLemmas.{visits_none_at, err_is, one_less, completes_ended, completes_finished, completes_hungry, visits_on, visits_done, visits_full, visits_begun, visits_next_at, visits_ended_at}
+use Rattle.elan_modules.proofs.EntryLemmas.{hungry_still}
 use Rattle.elan_modules.proofs.visit.+visits.Goals as goal
 
 pub complete-returns-in_err-visit_all : goal.complete-returns-in_err-visit_all
@@ -28,22 +29,25 @@ pub visit-returns-then-is_on : goal.visit-returns-then-is_on
 visit-returns-then-is_on g t c =
     visits_on c.args.path.now c.args.walk.now c.args.reference.now _ _ _ (sym c.is_on.ensures ∙ c.if-is_on.true) c.refused_at.ensures
 
-pub visit-returns-then-is_among : goal.visit-returns-then-is_among
-visit-returns-then-is_among g t c =
-    let done = rw c.as_slice.ensures at (sym c.is_among.ensures ∙ c.if-is_among.true) in
+pub visit-returns-in_err-done : goal.visit-returns-in_err-done
+visit-returns-in_err-done g t c = rw (err_is _ _ c.from_residual.ensures.1) (hungry_still _ _ _)
+
+pub visit-returns-then-done : goal.visit-returns-then-done
+visit-returns-then-done g t c =
+    let done = sym c.in_ok-done.ensures ∙ c.if-done.true in
     visits_done c.args.path.now c.args.walk.now c.args.reference.now _ _ (sym c.is_on.ensures ∙ c.if-is_on.false) done
 
 pub visit-returns-then-is_full : goal.visit-returns-then-is_full
 visit-returns-then-is_full g t c =
-    let new = rw c.as_slice.ensures at (sym c.is_among.ensures ∙ c.if-is_among.false) in
-    let full = rw c.len.ensures at (sym c.is_full.ensures ∙ c.if-is_full.true) in
+    let new = sym c.in_ok-done.ensures ∙ c.if-done.false in
+    let full = rw c.finished.ensures at (sym c.is_full.ensures ∙ c.if-is_full.true) in
     visits_full c.args.path.now c.args.walk.now c.args.reference.now _ _ _ (sym c.is_on.ensures ∙ c.if-is_on.false) new full
     c.refused_at-then-is_full.ensures
 
 pub visit-returns : goal.visit-returns
 visit-returns g t c =
-    let new = rw c.as_slice.ensures at (sym c.is_among.ensures ∙ c.if-is_among.false) in
-    let room = rw c.len.ensures at (sym c.is_full.ensures ∙ c.if-is_full.false) in
+    let new = sym c.in_ok-done.ensures ∙ c.if-done.false in
+    let room = rw c.finished.ensures at (sym c.is_full.ensures ∙ c.if-is_full.false) in
     visits_begun c.args.path.now c.args.walk.now c.args.reference.now _ _ _ _ _ _
     (one_less (length c.args.path.now) (length c.args.walk.now.done) room) (sym c.is_on.ensures ∙ c.if-is_on.false) new room
     c.complete.ensures

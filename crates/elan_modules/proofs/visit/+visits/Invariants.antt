@@ -1,6 +1,6 @@
 use Rattle.std.proofs.Common.{◌+◌, ◌-◌, ◌*◌, length, Result}
 use Rattle.elan_modules.specs.declared.flat.FlattenRefusal.{FlattenRefusal}
-use Rattle.elan_modules.specs.declared.walk.Walk.{Walk}
+use Rattle.elan_modules.specs.Walking.{Walk}
 use Rattle.elan_modules.specs.Visits as spec
 use Rattle.elan_modules.specs.Walks.{Shelf, Walks, shelf}
 use Rattle.elan_modules.proofs.visit.+visits.Given as goal

@@ -1,5 +1,5 @@
 use Rattle.std.proofs.Common.{◌≡◌, ◌++◌, length}
-use Rattle.elan_modules.proofs.visit.copied.Given as goal
+use Rattle.elan_modules.proofs.progress.copied.Given as goal
 
 -- what was copied so far and what is left make the whole
 abbrev pub invariant-names : goal.invariant-names

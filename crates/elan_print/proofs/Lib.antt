@@ -1,0 +1,9 @@
+pub mod SortLemmas
+pub mod Nesting
+pub mod Reading
+pub mod Sides
+pub mod Writing
+pub mod Good
+pub mod Ascii
+pub mod Lexing
+pub mod ReadBack

@@ -1,0 +1,7 @@
+pub mod Tokens
+pub mod Terms
+pub mod Sides
+pub mod Pages
+pub mod Refusals
+pub mod Reports
+pub mod Laws

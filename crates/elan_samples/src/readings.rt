@@ -1,8 +1,8 @@
 //! The edge rule at worked operators.
 
+use elan_program::{Assoc, Operator, Piece};
 use elan_reading::laws::{operands_follow_the_side, readings_have_their_sort};
 use elan_reading::{Position, Side, counted, fits, is_injection, side_of, tie};
-use elan_program::{Assoc, Operator, Piece};
 use elan_terms::SortId;
 use elan_text::{Name, NoMemory};
 use sqlite_items::Items;

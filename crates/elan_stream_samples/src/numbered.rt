@@ -1,7 +1,7 @@
 //! An outline with each of its parts, whose tokens were numbered by hand.
 
-use elan_syntax::{ClauseOutline, Section, Span, outline};
 use elan_lexer::tokens;
+use elan_syntax::{ClauseOutline, Section, Span, outline};
 use std::test::Fail;
 
 const TEXT: &[u8] =

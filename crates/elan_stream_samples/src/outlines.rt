@@ -2,10 +2,10 @@
 
 ghost use Rattle.std.specs.Prelude.{◌≤◌, length};
 
-use elan_syntax::laws::{one_answer, rules_behind_a_sort, some_answer, strategies_behind_a_sort};
-use elan_syntax::{Outline, module_outline, outline};
 use elan_lexer::tokens;
 use elan_phrases::is_unreserved;
+use elan_syntax::laws::{one_answer, rules_behind_a_sort, some_answer, strategies_behind_a_sort};
+use elan_syntax::{Outline, module_outline, outline};
 use elan_text::{Code, Name, Place, Stop};
 use std::alloc::{AllocError, Global};
 use std::test::Fail;

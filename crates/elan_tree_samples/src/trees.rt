@@ -2,11 +2,11 @@
 ghost use Rattle.std.specs.Prelude.{◌≡◌, ◌++◌, IfOk};
 ghost use Rattle.elan_tree_samples.specs.Toy.{toy_items, toy_after, either_list, toy_sense, Has};
 
+use elan_text::NoMemory;
 use elan_tree::branch::{Branch, Grown, Growth, Resumed};
 use elan_tree::name::Name;
 use elan_tree::posts::{Blank, Spot};
 use elan_tree::tree::Tree;
-use elan_text::NoMemory;
 use std::alloc::Global;
 use std::marker::Brand;
 use std::process::Abort;

@@ -1,0 +1,11 @@
+use Rattle.std.specs.List.{flat_map}
+use Rattle.elan_chart.specs.Found.{put_all}
+use Rattle.elan_chart.specs.Offers as spec
+use Rattle.elan_chart.proofs.PutLemmas.{put_item}
+use Rattle.elan_chart.proofs.offers.put_risen.Goals as goal
+
+pub loop-whole-preserved : goal.loop-whole-preserved
+loop-whole-preserved c =
+    put_item (spec.risen_offer c.args.signature.now c.args.injections.now) c.args.level.now c.loop-whole.whole-index c.whole-item.result c.loop-whole.run c.put_risen_of.new.run
+    (put_all c.args.run.now (flat_map (spec.risen_offer c.args.signature.now c.args.injections.now) c.args.level.now))
+    c.loop-whole-test.true c.whole-item.is (c.in_ok-put_risen_of.ensures {u = tt}) c.loop-whole.invariant

@@ -1,0 +1,6 @@
+pub mod TurnLemmas
+pub mod SeenLemmas
+pub mod TextLemmas
+pub mod NumberLemmas
+pub mod RuleLemmas
+pub mod CheckedLemmas

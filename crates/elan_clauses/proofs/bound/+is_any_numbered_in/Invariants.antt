@@ -1,0 +1,5 @@
+use Rattle.std.specs.Prelude.{length}
+use Rattle.elan_clauses.proofs.bound.+is_any_numbered_in.Given as goal
+
+abbrev pub decreases-is_any_numbered_in : goal.decreases-is_any_numbered_in
+decreases-is_any_numbered_in l = length l.found.now

@@ -1,0 +1,6 @@
+pub mod Refusals
+pub mod Texts
+pub mod Rules
+pub mod Seen
+pub mod Offered
+pub mod Gives

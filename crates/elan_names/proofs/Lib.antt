@@ -1,0 +1,7 @@
+pub mod GroupLemmas
+pub mod IndexLemmas
+pub mod PlanLemmas
+pub mod ResolveLemmas
+pub mod LeafLemmas
+pub mod ValidLemmas
+pub mod Rows

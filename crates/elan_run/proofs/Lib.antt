@@ -3,3 +3,4 @@ pub mod Verdicts
 pub mod Leaving
 pub mod Causes
 pub mod Reports
+pub mod Printing

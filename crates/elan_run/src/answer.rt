@@ -83,7 +83,7 @@ fn accepted(alloc: Global, prepared: &Prepared) -> Result<Answer, NoMemory>
         STEPS,
     )?;
     Ok(Answer {
-        text: report(alloc, prepared.program.signature(), LIMIT, items.as_slice())?,
+        text: report(alloc, &prepared.program, LIMIT, items.as_slice())?,
         status: Status::Done,
     })
 }

@@ -9,45 +9,43 @@ use elan_terms::{Pattern, PatternNode, SortId};
 use elan_text::{Name, NoMemory};
 use std::alloc::Global;
 
-fn digits_onto(out: &mut Vec<u8>, n: u64) -> Result<(), NoMemory> {
-    if 9 < n {
-        digits_onto(out, n / 10)?;
-    }
-    out.push(b'0' + (n % 10) as u8)?;
-    Ok(())
+/// Puts a number in digits.
+fn number_onto(alloc: Global, out: &mut Vec<u8>, number: i64) -> Result<(), NoMemory> {
+    let digits = format!(in alloc; "{number}")?;
+    out.extend_from_slice(digits.as_bytes())
 }
 
-fn tree_onto(out: &mut Vec<u8>, tree: &Pattern) -> Result<(), NoMemory> {
+#[cycle(tree)]
+#[tactic(auto, using(elan_terms::proofs::WeightLemmas::falls))]
+fn tree_onto(alloc: Global, out: &mut Vec<u8>, tree: &Pattern) -> Result<(), NoMemory> {
     match &tree.node {
         PatternNode::Var(number, _) => {
             out.push(b'x')?;
-            digits_onto(out, u64::from(*number))
+            number_onto(alloc, out, i64::from(*number))
         }
-        PatternNode::Int(value) => {
-            if *value < 0 {
-                out.push(b'-')?;
-            }
-            digits_onto(out, value.unsigned_abs())
-        }
+        PatternNode::Int(value) => number_onto(alloc, out, *value),
         PatternNode::App(op, args) => {
             out.push(b'f')?;
-            digits_onto(out, u64::from(op.0))?;
+            number_onto(alloc, out, i64::from(op.0))?;
             out.push(b'(')?;
-            trees_onto(out, args.as_slice())?;
+            trees_onto(alloc, out, args.as_slice())?;
             out.push(b')')?;
             Ok(())
         }
     }
 }
 
-fn trees_onto(out: &mut Vec<u8>, trees: &[Pattern]) -> Result<(), NoMemory> {
+#[cycle(tree)]
+#[tactic(auto, using(elan_terms::proofs::WeightLemmas::falls))]
+fn trees_onto(alloc: Global, out: &mut Vec<u8>, trees: &[Pattern]) -> Result<(), NoMemory> {
     match trees {
         [] => Ok(()),
-        [tree] => tree_onto(out, tree),
         [tree, rest @ ..] => {
-            tree_onto(out, tree)?;
-            out.push(b',')?;
-            trees_onto(out, rest)
+            tree_onto(alloc, out, tree)?;
+            if !rest.is_empty() {
+                out.push(b',')?;
+            }
+            trees_onto(alloc, out, rest)
         }
     }
 }
@@ -96,7 +94,7 @@ pub(crate) fn shown(
                 text,
                 list.as_slice(),
             ) {
-                Ok(tree) => tree_onto(&mut out, &tree)?,
+                Ok(tree) => tree_onto(alloc, &mut out, &tree)?,
                 Err(why) => out.extend_from_slice(refusal(why))?,
             }
         }

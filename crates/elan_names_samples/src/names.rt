@@ -155,7 +155,7 @@ fn kind(found: &Result<Strategy, Stopped>) -> Found {
 }
 
 // What a plan is at a sort, in no body or in one for the first sort with the parameters `X` and `r`.
-fn found(
+fn looked_up(
     alloc: Global,
     tokens: &[Token],
     known: Known<'_>,
@@ -209,7 +209,7 @@ fn a_name_alone_is_a_definition_or_else_the_rules_of_a_label(rt: HostRuntime) ->
         (true, THERE, X, Found::Refused(Code::E22, X)),
         (true, THERE, T, Found::Rules(3, 3)),
     ] {
-        let got = found(alloc, tokens.as_slice(), known, in_body, sort, &name(token));
+        let got = looked_up(alloc, tokens.as_slice(), known, in_body, sort, &name(token));
         assert_eq!(rt; got, wanted);
     }
     Ok(())
@@ -249,11 +249,11 @@ fn a_name_over_strategies_is_a_definition_or_else_an_operator(rt: HostRuntime) -
         (HERE, H, two, Found::Refused(Code::E16, H)),
     ] {
         let plan = over(alloc, token, arms)?;
-        let got = found(alloc, tokens.as_slice(), known, false, sort, &plan);
+        let got = looked_up(alloc, tokens.as_slice(), known, false, sort, &plan);
         assert_eq!(rt; got, wanted);
     }
     let inside = normal(alloc, NOPE)?;
-    let got = found(alloc, tokens.as_slice(), known, false, HERE, &inside);
+    let got = looked_up(alloc, tokens.as_slice(), known, false, HERE, &inside);
     assert_eq!(rt; got, Found::Refused(Code::E20, NOPE));
     Ok(())
 }

@@ -26,7 +26,8 @@ use Rattle.elan_program.specs.Patterns.{pattern_sort, sort_of_int, sort_over, ar
 use Rattle.elan_program.specs.declared.strategy.Scope.TheVariants.{Inside}
 use Rattle.elan_names.specs.declared.fault.Fault.{Fault}
 use Rattle.elan_names.specs.declared.heads.Names.{Names}
-use Rattle.elan_names.specs.declared.plan.Plan.{Plan}
+use Rattle.elan_phrases.specs.declared.plan.Plan.{Plan}
+use Rattle.elan_phrases.specs.declared.plan.Planned.{Planned}
 use Rattle.elan_program.specs.declared.strategy.Strategy.{Strategy}
 use Rattle.elan_names.specs.Resolved.{Site, Body, next, resolved}
 use Rattle.elan_names.specs.Names.{is_taken}
@@ -46,7 +47,7 @@ use Rattle.elan_reading.specs.declared.lexeme.Variable.{Variable}
 use Rattle.elan_reading.specs.declared.sought.Sought.{Sought}
 use Rattle.elan_reading.specs.declared.sought.Sought.TheVariants.{Sort, Any}
 use Rattle.elan_clauses.specs.Refusals.{Checked, refusal_at, name_at}
-use Rattle.elan_clauses.specs.Texts.{Reader, Bound, at_text, unless, text_as, truth_as, plan_at, closed, fresh, sort_of, sort_or_none, head_sort, made_by, is_numbered_in}
+use Rattle.elan_clauses.specs.Texts.{Reader, Bound, plan_of, at_text, unless, text_as, truth_as, closed, fresh, sort_of, sort_or_none, head_sort, made_by, is_numbered_in}
 use Rattle.elan_clauses.specs.Rules.{numbered_rule, checked_if, checked_left, checked_start, checked_where, checked_clause, checked_clauses, checked_rule, strategy_in, at_token, checked_definition, resolved_in, none_seen, second_of, once_or}
 use Rattle.elan_modules.specs.Sorts.{word_at}
 use Rattle.elan_program.specs.Validity.{is_truth, are_joined, is_valid_strategy, is_valid_rule, is_valid_named}
@@ -84,7 +85,7 @@ rule_sort read g names text declared sort r found e =
 pub named_sort : (read : Reader) (g : Signature) (names : Names) (text : LoadedText) (before : ℕ) (sort : SortId) (d : DefinitionOutline) (n : Named)
     → checked_definition read g names text before sort d ≡ Ok n → named_part n ≡ part_of sort d
 named_sort read g names text before sort d n e =
-    let body = went_on (strategy_in read g names text (Some (body_of sort d)) sort (Some d.by)) _ n
+    let body = went_on (strategy_in g names text (Some (body_of sort d)) sort (Some d.by)) _ n
     (was_once text (second_of text none_seen d.parameters) _ n (was_once text (if is_taken names before sort (word_at text d.name) then Some d.name else None) _ n e)) in
     ap named_part (sym (same_ok body.1.1))
 
@@ -136,11 +137,10 @@ module _ (read : Reader) (g : Signature) (names : Names) (rs : List Rule) (ns : 
   token_read text (Ok t) s e = ap Ok (same_ok e)
   token_read text (Err f) s e = absurd (no_ok e)
 
-  pub strategy_fits : (text : LoadedText) (body : Option Body) (sort : SortId) (by : Option Span) (s : Strategy)
-      → strategy_in read g names text body sort by ≡ Ok s → is_valid_strategy w (scope_in body) s sort ≡ true
+  pub strategy_fits : (text : LoadedText) (body : Option Body) (sort : SortId) (by : Option Planned) (s : Strategy)
+      → strategy_in g names text body sort by ≡ Ok s → is_valid_strategy w (scope_in body) s sort ≡ true
   strategy_fits text body sort by s e =
-      let plan = went_on (plan_at read text by) (resolved_in g names text body sort) s e in
-      plan_good w sc (record { operators = refl; named = named }) sound plan.0 sort s (token_read text (resolved sc plan.0 sort) s plan.1.1)
+      plan_good w sc (record { operators = refl; named = named }) sound (plan_of by) sort s (token_read text (resolved sc (plan_of by) sort) s e)
     where
       sc : Site
       sc = record { bytes = text.bytes; tokens = text.tokens; names = names; operators = g.operators; body = body }
@@ -156,10 +156,10 @@ module _ (read : Reader) (g : Signature) (names : Names) (rs : List Rule) (ns : 
     -- ---- conditions
 
     -- the strategy of a `where` is valid at the sort of the term from which it starts
-    start_fits : (bound : Bound) (sort : SortId) (by : Option Span) (at : Span) (found : Strategy × Pattern) → checked_start read g names text declared bound sort by at ≡ Ok found
+    start_fits : (bound : Bound) (sort : SortId) (by : Option Planned) (at : Span) (found : Strategy × Pattern) → checked_start read g names text declared bound sort by at ≡ Ok found
         → (uses bound found.1 ≡ true) × (are_joined w (Some sort) (pattern_sort (shapes_of g) found.1) found.0 ≡ true)
     start_fits bound sort by at found e =
-        let s = went_on (strategy_in read g names text None sort by) _ found e in
+        let s = went_on (strategy_in g names text None sort by) _ found e in
         let of = went_on (text_as read g text declared (Sort sort) at) _ found s.1.1 in
         let of_too = went_on (closed text at bound of.0) _ found of.1.1 in
         let bound_all = was_good text at _ (not (uses bound of.0)) of.0 of_too.0 of_too.1.0 in
@@ -253,7 +253,7 @@ module _ (read : Reader) (g : Signature) (names : Names) (rs : List Rule) (ns : 
       → checked_definition read g names text before sort d ≡ Ok n → is_valid_named w n ≡ true
   unfolding is_valid_named
   named_valid text before sort d n there e =
-      let body = went_on (strategy_in read g names text (Some (body_of sort d)) sort (Some d.by)) _ n
+      let body = went_on (strategy_in g names text (Some (body_of sort d)) sort (Some d.by)) _ n
       (was_once text (second_of text none_seen d.parameters) _ n (was_once text (if is_taken names before sort (word_at text d.name) then Some d.name else None) _ n e)) in
       subst (λ n. has_sort_id g n.sort && is_valid_strategy w (Inside n.parameters n.sort) n.body n.sort ≡ true) (same_ok body.1.1)
       (both_true (has_sort_id g sort) _ there (strategy_fits text (Some (body_of sort d)) sort (Some d.by) body.0 body.1.0))

@@ -4,3 +4,4 @@ pub mod TextLemmas
 pub mod NumberLemmas
 pub mod RuleLemmas
 pub mod CheckedLemmas
+pub mod ReadableLemmas

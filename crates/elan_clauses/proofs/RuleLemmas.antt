@@ -18,7 +18,7 @@ use Rattle.elan_program.specs.Soundness.{most, has_sort_id, truth_sort, holes}
 use Rattle.elan_program.specs.Patterns.{pattern_sort, uses, is_bound, are_numbered, binds}
 use Rattle.elan_names.specs.declared.fault.Fault.{Fault}
 use Rattle.elan_names.specs.declared.heads.Names.{Names}
-use Rattle.elan_names.specs.declared.plan.Plan.{Plan}
+use Rattle.elan_phrases.specs.declared.plan.Plan.{Plan}
 use Rattle.elan_program.specs.declared.strategy.Strategy.{Strategy}
 use Rattle.elan_names.specs.Resolved.{next, resolved}
 use Rattle.elan_program.specs.declared.program.Parts.{Parts}

@@ -1,5 +1,6 @@
 pub mod Refusals
 pub mod Texts
+pub mod Readable
 pub mod Rules
 pub mod Seen
 pub mod Offered

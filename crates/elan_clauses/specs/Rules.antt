@@ -14,7 +14,8 @@ use Rattle.elan_program.specs.declared.signature.Signature.{Signature}
 use Rattle.elan_program.specs.Extension.{var_pattern, int_pattern, app_pattern}
 use Rattle.elan_names.specs.declared.fault.Fault.{Fault}
 use Rattle.elan_names.specs.declared.heads.Names.{Names}
-use Rattle.elan_names.specs.declared.plan.Plan.{Plan}
+use Rattle.elan_phrases.specs.declared.plan.Plan.{Plan}
+use Rattle.elan_phrases.specs.declared.plan.Planned.{Planned}
 use Rattle.elan_program.specs.declared.strategy.Strategy.{Strategy}
 use Rattle.elan_names.specs.Names.{Word, is_taken}
 use Rattle.elan_names.specs.Resolved.{Body, next, resolved}
@@ -32,7 +33,7 @@ use Rattle.elan_reading.specs.declared.lexeme.Variable.{Variable}
 use Rattle.elan_reading.specs.declared.sought.Sought.TheVariants.{Sort, Any}
 use Rattle.elan_modules.specs.Sorts.{word_at}
 use Rattle.elan_clauses.specs.Refusals.{Checked, refusal_at, name_at}
-use Rattle.elan_clauses.specs.Texts.{Reader, Bound, text_as, truth_as, closed, fresh, sort_of, plan_at}
+use Rattle.elan_clauses.specs.Texts.{Reader, Bound, plan_of, text_as, truth_as, closed, fresh, sort_of}
 
 -- ---- strategies
 
@@ -46,9 +47,9 @@ abbrev pub resolved_in : Signature → Names → LoadedText → Option Body → 
 resolved_in g names text body sort plan = at_token text (resolved
     (record { bytes = text.bytes; tokens = text.tokens; names = names; operators = g.operators; body = body }) plan sort)
 
--- the strategy that is written at a span, or the empty one
-abbrev pub strategy_in : Reader → Signature → Names → LoadedText → Option Body → SortId → Option Span → Checked Strategy
-strategy_in read g names text body sort by = next (plan_at read text by) (resolved_in g names text body sort)
+-- the strategy that is written, or the empty one
+abbrev pub strategy_in : Signature → Names → LoadedText → Option Body → SortId → Option Planned → Checked Strategy
+strategy_in g names text body sort by = resolved_in g names text body sort (plan_of by)
 
 -- ---- names that stand twice
 
@@ -82,14 +83,14 @@ module _ (read : Reader) (g : Signature) (names : Names) (text : LoadedText) (de
       next (sort_of g text at left) (λ sort. Ok (left, sort))))
 
   -- the strategy of a `where` at a sort, and the term from which it starts
-  abbrev pub checked_start : Bound → SortId → Option Span → Span → Checked (Strategy × Pattern)
+  abbrev pub checked_start : Bound → SortId → Option Planned → Span → Checked (Strategy × Pattern)
   checked_start bound sort by at =
-      next (strategy_in read g names text None sort by) (λ s.
+      next (strategy_in g names text None sort by) (λ s.
       next (text_as read g text declared (Sort sort) at) (λ of.
       next (closed text at bound of) (λ of. Ok (s, of))))
 
   -- a `where`, with the variables that are bound behind it
-  abbrev pub checked_where : Bound → Span → Option Span → Span → Checked (Clause × Bound)
+  abbrev pub checked_where : Bound → Span → Option Planned → Span → Checked (Clause × Bound)
   checked_where bound left by of =
       next (checked_left bound left) (λ l.
       next (checked_start bound l.1 by of) (λ s. Ok (Where l.0 s.0 s.1, bound ++ variables l.0)))
@@ -146,5 +147,5 @@ abbrev pub checked_definition : Reader → Signature → Names → LoadedText �
 checked_definition read g names text before sort d =
     once_or text (if is_taken names before sort (word_at text d.name) then Some d.name else None)
     (once_or text (second_of text none_seen d.parameters)
-    (next (strategy_in read g names text (Some (record { parameters = d.parameters; sort = sort })) sort (Some d.by)) (λ body.
+    (next (strategy_in g names text (Some (record { parameters = d.parameters; sort = sort })) sort (Some d.by)) (λ body.
     Ok (record { name = name_at text d.name; sort = sort; parameters = length d.parameters; body = body }))))

@@ -1,6 +1,7 @@
 -- Texts as patterns, and which variables they may have.
 use Rattle.std.specs.Prelude.{ℕ, ◌==◌, Bool, true, false, not, if◌then◌else◌, nat_lt, Option, Some, None, Result, Ok, Err, List, [], ◌∷◌, length, slice_get, slice_range}
 use Rattle.std.specs.List.{list_any}
+use Rattle.std.specs.Option.{option_map}
 use Rattle.elan_text.specs.declared.refusal.Code.{Code}
 use Rattle.elan_text.specs.declared.refusal.Code.TheVariants.{E15, E17, E18, E19}
 use Rattle.elan_lexer.specs.declared.token.Token.{Token}
@@ -12,8 +13,9 @@ use Rattle.elan_program.specs.declared.signature.Operator.{Operator}
 use Rattle.elan_program.specs.declared.signature.Signature.{Signature}
 use Rattle.elan_program.specs.declared.signature.Truth.{Truth}
 use Rattle.elan_program.specs.Patterns.{uses}
-use Rattle.elan_names.specs.declared.plan.Plan.{Plan}
-use Rattle.elan_names.specs.declared.plan.PlanNode.TheVariants as plan
+use Rattle.elan_phrases.specs.declared.plan.Plan.{Plan}
+use Rattle.elan_phrases.specs.declared.plan.PlanNode.TheVariants as plan
+use Rattle.elan_phrases.specs.declared.plan.Planned.{Planned}
 use Rattle.elan_modules.specs.declared.flat.LoadedText.{LoadedText}
 use Rattle.elan_phrases.specs.declared.span.Span.{Span}
 use Rattle.elan_reading.specs.declared.lexeme.Variable.{Variable}
@@ -21,11 +23,9 @@ use Rattle.elan_reading.specs.declared.sought.Sought.{Sought}
 use Rattle.elan_reading.specs.declared.sought.Sought.TheVariants.{Sort, Any}
 use Rattle.elan_clauses.specs.Refusals.{Checked, refusal_at}
 
--- how texts and strategies are read: the one reading of tokens, or E17, E15 or E16; and the plan of the strategy at a
--- span of a text, or a code
+-- how texts are read: the one reading of tokens, or E17, E15 or E16
 pub record Reader : Type 0 where
   pub reading : Signature → List Variable → Sought → List ℕ → List Token → Result Pattern Code
-  pub planning : List ℕ → List Token → Span → Result Plan Code
 
 -- a value, or the refusal at the first token of a text
 abbrev pub at_text : {A : Type 0} → LoadedText → Span → Result A Code → Checked A
@@ -48,9 +48,9 @@ module _ (read : Reader) (g : Signature) (text : LoadedText) (declared : List Va
       at_text text at (Err (if nat_lt 256 (length (slice_range text.tokens at.first at.past)) then E17 else E15))
 
 -- the plan of a strategy, which is `id` where it is empty
-abbrev pub plan_at : Reader → LoadedText → Option Span → Checked Plan
-plan_at read text None = Ok (record { node = plan.Id })
-plan_at read text (Some at) = at_text text at (read.planning text.bytes text.tokens at)
+abbrev pub plan_of : Option Planned → Plan
+plan_of None = record { node = plan.Id }
+plan_of (Some by) = by.plan
 
 -- variables with their sorts
 abbrev pub Bound : Type 0

@@ -8,7 +8,7 @@ ghost use Rattle.elan_clauses.specs.Rules as spec;
 
 use crate::reading::Read;
 use crate::refusing::name_at;
-use crate::rules::strategy_in;
+use crate::rules::planned_in;
 use crate::texts::Around;
 use crate::twice::{once_or, second_of};
 use elan_modules::word_at;
@@ -67,7 +67,7 @@ pub fn checked_definition<'a, R: Read>(
     )?;
     once_or(alloc, text, second_of(alloc, text, parameters)?)?;
     let body = Some(Body { parameters, sort });
-    let body = strategy_in(alloc, around, body, sort, Some(definition.by))?;
+    let body = planned_in(alloc, around, body, sort, &definition.by)?;
     let name = name_at(alloc, text, definition.name)?;
     Ok(Named {
         name,

@@ -1,8 +1,10 @@
 //! Rules and definitions, checked one by one.
 
-ghost use Rattle.std.specs.Prelude.{◌≡◌, ◌<◌, ◌^◌, ◌++◌, length, map, IfOk, Ok, Err, Some, None};
+ghost use Rattle.std.specs.Prelude.{◌≡◌, ◌<◌, ◌^◌, ◌++◌, true, length, map, IfOk, Ok, Err, Some, None};
 ghost use Rattle.std.specs.Option.{option_map};
+ghost use Rattle.elan_program.specs.Soundness.{is_sound};
 ghost use Rattle.elan_clauses.specs.Gives.{Gives, Leaves, GivesWith};
+ghost use Rattle.elan_clauses.specs.Readable.{IsReadable};
 ghost use Rattle.elan_names.specs.Resolved.{seen_body};
 ghost use Rattle.elan_clauses.specs.Refusals.{name_at as the_name};
 ghost use Rattle.elan_clauses.specs.Rules as spec;
@@ -10,9 +12,10 @@ ghost use Rattle.elan_clauses.specs.Rules as spec;
 use crate::bound::{closed, fresh};
 use crate::reading::Read;
 use crate::refusing::{name_at, refused};
-use crate::texts::{Around, plan_at, sort_of, text_as, truth_as};
+use crate::texts::{Around, sort_of, text_as, truth_as};
 use elan_modules::LoadedText;
-use elan_names::{Body, Known, Plan, Site, Stopped, resolve};
+use elan_names::{Body, Known, Site, Stopped, resolve};
+use elan_phrases::{Plan, PlanNode, Planned};
 use elan_program::{Clause, Rule, Strategy};
 use elan_reading::Sought;
 use elan_syntax::{ClauseOutline, RuleOutline, Span};
@@ -61,21 +64,38 @@ fn resolved_in<'a, R: Read>(
     }
 }
 
-/// The strategy that is written at a span, or the empty one, at a sort, in this body or in none.
+/// The strategy that is written, or the empty one, at a sort, in this body or in none.
 pub fn strategy_in<'a, R: Read>(
     alloc: Global,
     around: &Around<'a, R>,
     body: Option<Body<'a>>,
     sort: SortId,
-    by: Option<Span>,
+    by: &Option<Planned>,
 ) -> Result<Strategy, Stop>
-    ensures { let a = around.now in
-        Gives result (spec.strategy_in (R.reads a.reader.now) a.signature.now a.names.now
-        a.text.now (option_map seen_body body.entry) sort by) }
+    ensures { let a = around.now in Gives result (spec.strategy_in a.signature.now a.names.now
+        a.text.now (option_map seen_body body.entry) sort by.now) }
 {
-    let plan = plan_at(alloc, around, by)?;
-    let strategy = resolved_in(alloc, around, body, sort, &plan)?;
-    Ok(strategy)
+    match by {
+        Some(planned) => planned_in(alloc, around, body, sort, planned),
+        None => {
+            let plan = Plan { node: PlanNode::Id };
+            resolved_in(alloc, around, body, sort, &plan)
+        }
+    }
+}
+
+/// A strategy that is not empty, at a sort, in this body or in none.
+pub(crate) fn planned_in<'a, R: Read>(
+    alloc: Global,
+    around: &Around<'a, R>,
+    body: Option<Body<'a>>,
+    sort: SortId,
+    by: &Planned,
+) -> Result<Strategy, Stop>
+    ensures { let a = around.now in Gives result (spec.strategy_in a.signature.now a.names.now
+        a.text.now (option_map seen_body body.entry) sort (Some by.now)) }
+{
+    resolved_in(alloc, around, body, sort, &by.plan)
 }
 
 fn checked_if<R: Read>(
@@ -84,6 +104,8 @@ fn checked_if<R: Read>(
     bound: &[(u32, SortId)],
     at: Span,
 ) -> Result<Pattern, Stop>
+    requires sound { is_sound around.now.signature.now ≡ true }
+    requires readable { IsReadable around.now.text.now }
     ensures { let a = around.now in
         Gives result (spec.checked_if (R.reads a.reader.now) a.signature.now a.names.now a.text.now
         a.variables.now bound.now at) }
@@ -99,6 +121,8 @@ fn checked_left<R: Read>(
     bound: &[(u32, SortId)],
     at: Span,
 ) -> Result<(Pattern, SortId), Stop>
+    requires sound { is_sound around.now.signature.now ≡ true }
+    requires readable { IsReadable around.now.text.now }
     ensures { let a = around.now in
         Gives result (spec.checked_left (R.reads a.reader.now) a.signature.now a.names.now
         a.text.now a.variables.now bound.now at) }
@@ -115,12 +139,14 @@ fn checked_start<R: Read>(
     around: &Around<'_, R>,
     bound: &[(u32, SortId)],
     sort: SortId,
-    by: Option<Span>,
+    by: &Option<Planned>,
     at: Span,
 ) -> Result<(Strategy, Pattern), Stop>
+    requires sound { is_sound around.now.signature.now ≡ true }
+    requires readable { IsReadable around.now.text.now }
     ensures { let a = around.now in
         Gives result (spec.checked_start (R.reads a.reader.now) a.signature.now a.names.now
-        a.text.now a.variables.now bound.now sort by at) }
+        a.text.now a.variables.now bound.now sort by.now at) }
 {
     let strategy = strategy_in(alloc, around, None, sort, by)?;
     let of = text_as(alloc, around, Sought::Sort(sort), at)?;
@@ -133,12 +159,14 @@ fn checked_where<R: Read>(
     around: &Around<'_, R>,
     bound: &mut Items<(u32, SortId)>,
     left: Span,
-    by: Option<Span>,
+    by: &Option<Planned>,
     of: Span,
 ) -> Result<Clause, Stop>
+    requires sound { is_sound around.now.signature.now ≡ true }
+    requires readable { IsReadable around.now.text.now }
     ensures { let a = around.now in
         GivesWith result bound.new (spec.checked_where (R.reads a.reader.now) a.signature.now
-        a.names.now a.text.now a.variables.now bound.old left by of) }
+        a.names.now a.text.now a.variables.now bound.old left by.now of) }
 {
     let (left, sort) = checked_left(alloc, around, bound.as_slice(), left)?;
     let (by, of) = checked_start(alloc, around, bound.as_slice(), sort, by, of)?;
@@ -153,6 +181,8 @@ fn checked_clause<R: Read>(
     bound: &mut Items<(u32, SortId)>,
     clause: &ClauseOutline,
 ) -> Result<Clause, Stop>
+    requires sound { is_sound around.now.signature.now ≡ true }
+    requires readable { IsReadable around.now.text.now }
     ensures { let a = around.now in
         GivesWith result bound.new (spec.checked_clause (R.reads a.reader.now) a.signature.now
         a.names.now a.text.now a.variables.now bound.old clause.now) }
@@ -163,7 +193,7 @@ fn checked_clause<R: Read>(
             Ok(Clause::If(test))
         }
         ClauseOutline::Where { left, by, of } => {
-            checked_where(alloc, around, bound, *left, *by, *of)
+            checked_where(alloc, around, bound, *left, by, *of)
         }
     }
 }
@@ -176,6 +206,8 @@ fn clauses_onto<R: Read>(
     bound: &mut Items<(u32, SortId)>,
     clauses: &[ClauseOutline],
 ) -> Result<(), Stop>
+    requires sound { is_sound around.now.signature.now ≡ true }
+    requires readable { IsReadable around.now.text.now }
     ensures { let a = around.now in
         Leaves result (out.new, bound.new) (spec.checked_clauses (R.reads a.reader.now)
         a.signature.now a.names.now a.text.now a.variables.now out.old bound.old clauses.now) }
@@ -196,6 +228,8 @@ pub fn checked_rule<R: Read>(
     sort: SortId,
     rule: &RuleOutline,
 ) -> Result<(Rule, Items<(u32, SortId)>), Stop>
+    requires sound { is_sound around.now.signature.now ≡ true }
+    requires readable { IsReadable around.now.text.now }
     ensures { let a = around.now in
         Gives result (spec.checked_rule (R.reads a.reader.now) a.signature.now a.names.now
         a.text.now a.variables.now sort rule.now) }

@@ -1,14 +1,20 @@
 //! Texts as patterns, and which variables they may have.
 
-ghost use Rattle.std.specs.Prelude.{◌≡◌, ◌<◌, ◌^◌, length, slice_range, slice_get, Some, None, Ok, Err, IfOk};
+ghost use Rattle.std.specs.Prelude.{◌≡◌, ◌<◌, ◌^◌, true, length, map, slice_range, slice_get, Some, None, Ok, Err, IfOk};
+ghost use Rattle.std.specs.List.{All};
+ghost use Rattle.elan_lexer.specs.Text.{IsInside};
+ghost use Rattle.elan_program.specs.Soundness.{is_sound};
+ghost use Rattle.elan_reading.specs.Lexemes.{lexeme_of, IsInRange};
 ghost use Rattle.elan_names.specs.Indexed.{IsIndexOf};
 ghost use Rattle.elan_clauses.specs.Gives.{Gives};
+ghost use Rattle.elan_clauses.specs.Readable.{IsReadable};
 ghost use Rattle.elan_clauses.specs.Texts as spec;
 
 use crate::reading::{Read, Unread};
 use crate::refusing::refused;
+use elan_lexer::Token;
 use elan_modules::{LoadedText, part};
-use elan_names::{Index, Names, Plan, PlanNode};
+use elan_names::{Index, Names};
 use elan_program::{Operator, Signature, Truth};
 use elan_reading::{Sought, Variable};
 use elan_syntax::Span;
@@ -49,6 +55,17 @@ fn unless(alloc: Global, text: &LoadedText, at: Span, code: Code, bad: bool) -> 
     }
 }
 
+/// The tokens of a span, which may be read as the whole text may.
+#[tactic(auto, using(crate::proofs::ReadableLemmas::inside_part, crate::proofs::ReadableLemmas::in_range_part))]
+fn run_at(text: &LoadedText, at: Span) -> &[Token]
+    requires { IsReadable text.now }
+    ensures tokens { result.now ≡ slice_range text.now.tokens at.first at.past }
+    ensures inside { All (IsInside text.now.bytes) result.now }
+    ensures in_range { All IsInRange (map (lexeme_of text.now.bytes) result.now) }
+{
+    part(text.tokens.as_slice(), at.first as usize, at.past as usize)
+}
+
 /// A text at a sort, or at any.
 pub fn text_as<R: Read>(
     alloc: Global,
@@ -56,12 +73,14 @@ pub fn text_as<R: Read>(
     sought: Sought,
     at: Span,
 ) -> Result<Pattern, Stop>
+    requires sound { is_sound around.now.signature.now ≡ true }
+    requires readable { IsReadable around.now.text.now }
     ensures { let a = around.now in
         Gives result (spec.text_as (R.reads a.reader.now) a.signature.now a.text.now
         a.variables.now sought at) }
 {
     let text = around.text;
-    let tokens = part(text.tokens.as_slice(), at.first as usize, at.past as usize);
+    let tokens = run_at(text, at);
     match around.reader.read(
         alloc,
         around.signature,
@@ -82,6 +101,8 @@ pub(crate) fn truth_as<R: Read>(
     around: &Around<'_, R>,
     at: Span,
 ) -> Result<Pattern, Stop>
+    requires sound { is_sound around.now.signature.now ≡ true }
+    requires readable { IsReadable around.now.text.now }
     ensures { let a = around.now in
         Gives result (spec.truth_as (R.reads a.reader.now) a.signature.now a.text.now
         a.variables.now a.signature.now.truth at) }
@@ -98,29 +119,6 @@ pub(crate) fn truth_as<R: Read>(
             };
             Err(refused(alloc, text, at.first, code))
         }
-    }
-}
-
-/// The plan of a strategy, which is `id` where it is empty.
-pub(crate) fn plan_at<R: Read>(
-    alloc: Global,
-    around: &Around<'_, R>,
-    by: Option<Span>,
-) -> Result<Plan, Stop>
-    ensures { let a = around.now in
-        Gives result (spec.plan_at (R.reads a.reader.now) a.text.now by) }
-{
-    let Some(at) = by else {
-        return Ok(Plan { node: PlanNode::Id });
-    };
-    let text = around.text;
-    match around
-        .reader
-        .plan(alloc, text.bytes.as_slice(), text.tokens.as_slice(), at)
-    {
-        Ok(plan) => Ok(plan),
-        Err(Unread::Refused(code)) => Err(refused(alloc, text, at.first, code)),
-        Err(Unread::NoMemory) => Err(Stop::NoMemory),
     }
 }
 

@@ -4,7 +4,7 @@ use Rattle.std.proofs.Common.{◌≡◌, ℕ, zero, suc, ◌+◌, ◌-◌, ◌<�
 use Rattle.std.specs.Prelude.{count_by, ◌↔◌}
 use Rattle.std.proofs.lemmas.List.Sums.{sum_by-append, sum_by-cons, count_by-le-length}
 use Rattle.elan_forms.specs.Whole.{Possible, Unmarked, EndsWith, IsFirstMark}
-use Rattle.elan_forms.specs.Form.{Form, ◌>>=◌, counted, pure, either, loop, loop_words, nested}
+use Rattle.elan_forms.specs.Form.{Form, ◌>>=◌, counted, silent, pure, place, ranged, placed, either, loop, loop_words, nested}
 use Rattle.elan_forms.proofs.Steps.{head_is, tail_is}
 use Rattle.elan_forms.proofs.Exact.{Same}
 use Rattle.elan_forms.proofs.Nested.{Grows, Lessens, unroll}
@@ -84,27 +84,32 @@ module _ {T : Type 0} (c : T → Bool) where
       go further zero e = trimmed_here t ts (c t) refl e lt
       go further (suc m) e = trimmed_behind t ts (further (omega arith))
 
--- A form that takes how many tokens are left and answers how many are left then, on texts shorter than a bound. The
--- test says which tokens count.
-pub record Counts {T : Type 0} (c : T → Bool) (b : ℕ) (R : ℕ → Form T ℕ) : Type 0 where
-  pub has : (left n : ℕ) → (w : List T) × (v : ℕ) × (R left).words n w v
-  pub spent : (left n : ℕ) (ts : List T) (v : ℕ) → length ts < b → (R left).words n ts v → v ≡ left - count_by c ts
-  pub past : (left n : ℕ) (ts : List T) → length ts < b → (R left).marks n ts → left < count_by c ts
-  pub ends : (left n : ℕ) (ts : List T) → length ts < b → (R left).marks n ts → EndsWith c ts
-  pub goes_on : (left n : ℕ) (ts : List T) → length ts < b → (R left).marks n ts → Possible ((R left).words n) ts
-  pub marks : (left n : ℕ) (ts more : List T) (v : ℕ) → length (ts ++ more) < b → (R left).words n (ts ++ more) v →
+-- A form for which so many tokens are left, and whose value says how many are left then, on texts shorter than a bound.
+-- The test says which tokens count.
+pub record Counts {T V : Type 0} (c : T → Bool) (b left : ℕ) (out : V → ℕ) (f : Form T V) : Type 0 where
+  pub has : (n : ℕ) → (w : List T) × (v : V) × f.words n w v
+  pub spent : (n : ℕ) (ts : List T) (v : V) → length ts < b → f.words n ts v → out v ≡ left - count_by c ts
+  pub past : (n : ℕ) (ts : List T) → length ts < b → f.marks n ts → left < count_by c ts
+  pub ends : (n : ℕ) (ts : List T) → length ts < b → f.marks n ts → EndsWith c ts
+  pub goes_on : (n : ℕ) (ts : List T) → length ts < b → f.marks n ts → Possible (f.words n) ts
+  pub marks : (n : ℕ) (ts more : List T) (v : V) → length (ts ++ more) < b → f.words n (ts ++ more) v →
       left < count_by c ts → EndsWith c ts →
-      (R left).marks n ts
+      f.marks n ts
+
+-- a value that is the number that is left
+abbrev pub itself : ℕ → ℕ
+itself left = left
 
 module _ {T : Type 0} (c : T → Bool) where
-  pub counts_less : (b d : ℕ) (R : ℕ → Form T ℕ) → b ≤ d → Counts c d R → Counts c b R
-  counts_less b d R le h = record {
+  pub counts_less : {V : Type 0} (b d left : ℕ) (out : V → ℕ) (f : Form T V) → b ≤ d → Counts c d left out f →
+      Counts c b left out f
+  counts_less b d left out f le h = record {
     has = h.has;
-    spent = λ left n ts v l w. h.spent left n ts v (omega arith) w;
-    past = λ left n ts l m. h.past left n ts (omega arith) m;
-    ends = λ left n ts l m. h.ends left n ts (omega arith) m;
-    goes_on = λ left n ts l m. h.goes_on left n ts (omega arith) m;
-    marks = λ left n ts more v l w lt e. h.marks left n ts more v (omega arith) w lt e;
+    spent = λ n ts v l w. h.spent n ts v (omega arith) w;
+    past = λ n ts l m. h.past n ts (omega arith) m;
+    ends = λ n ts l m. h.ends n ts (omega arith) m;
+    goes_on = λ n ts l m. h.goes_on n ts (omega arith) m;
+    marks = λ n ts more v l w lt e. h.marks n ts more v (omega arith) w lt e;
   }
 
   -- ---- no token, and one token
@@ -113,35 +118,41 @@ module _ {T : Type 0} (c : T → Bool) where
   nil_of_length [] e = refl
   nil_of_length (t ∷ ts) e = absurd (omega arith)
 
-  pub counts_silent : (b : ℕ) → Counts c b (λ left. pure left)
-  counts_silent b = record {
-    has = λ left n. ([], left, (refl, refl));
-    spent = λ left n ts v l (e, ev). let none : length ts ≡ 0 = ap length e in omega (arith, count_by-le-length c ts);
-    past = λ left n ts l m. absurd m;
-    ends = λ left n ts l m. absurd m;
-    goes_on = λ left n ts l m. absurd m;
-    marks = λ left n ts more v l (e, ev) lt h. let none : length (ts ++ more) ≡ 0 = ap length e in
+  pub counts_silent : {V : Type 0} (b left : ℕ) (out : V → ℕ) (value : ℕ → V) → ((n : ℕ) → out (value n) ≡ left) →
+      Counts c b left out (silent value)
+  counts_silent b left out value same = record {
+    has = λ n. ([], value n, (refl, refl));
+    spent = λ n ts v l (e, ev).
+        let none : length ts ≡ 0 = ap length e in
+        let this : out v ≡ left = ap out ev ∙ same n in omega (arith, count_by-le-length c ts);
+    past = λ n ts l m. absurd m;
+    ends = λ n ts l m. absurd m;
+    goes_on = λ n ts l m. absurd m;
+    marks = λ n ts more v l (e, ev) lt h. let none : length (ts ++ more) ≡ 0 = ap length e in
         absurd (omega (arith, length-append ts more, count_by-le-length c ts));
   }
 
-  pub counts_counted : (b : ℕ) (p : T → Bool) (w : T) → p w ≡ true → ((t : T) → p t ≡ true → c t ≡ true) →
-      Counts c b (counted p)
-  counts_counted b p w pw each = record {
-    has = λ left n. (w ∷ [], left - 1, (w, refl, pw, refl));
-    spent = λ left n ts v l (t, e, pt, ev). let one : count_by c ts ≡ 1 = counted_one ts t e pt in omega arith;
-    past = λ left n ts l (z, t, e, pt). let one : count_by c ts ≡ 1 = counted_one ts t e pt in omega arith;
-    ends = λ left n ts l (z, t, e, pt). ([], t, e, each t pt);
-    goes_on = λ left n ts l (z, t, e, pt). ([], left - 1, (t, append-nil ts ∙ e, pt, refl));
+  pub counts_pure : {V : Type 0} (b : ℕ) (out : V → ℕ) (v : V) → Counts c b (out v) out (pure v)
+  counts_pure b out v = counts_silent b (out v) out (λ _. v) (λ n. refl)
+
+  pub counts_counted : (b left : ℕ) (p : T → Bool) (w : T) → p w ≡ true → ((t : T) → p t ≡ true → c t ≡ true) →
+      Counts c b left itself (counted p left)
+  counts_counted b left p w pw each = record {
+    has = λ n. (w ∷ [], left - 1, (w, refl, pw, refl));
+    spent = λ n ts v l (t, e, pt, ev). let one : count_by c ts ≡ 1 = counted_one ts t e pt in omega arith;
+    past = λ n ts l (z, t, e, pt). let one : count_by c ts ≡ 1 = counted_one ts t e pt in omega arith;
+    ends = λ n ts l (z, t, e, pt). ([], t, e, each t pt);
+    goes_on = λ n ts l (z, t, e, pt). ([], left - 1, (t, append-nil ts ∙ e, pt, refl));
     marks = marks;
   }
     where
       counted_one : (ts : List T) (t : T) → ts ≡ t ∷ [] → p t ≡ true → count_by c ts ≡ 1
       counted_one ts t e pt = ap (count_by c) e ∙ count_one c t (each t pt)
 
-      marks : (left n : ℕ) (ts more : List T) (v : ℕ) → length (ts ++ more) < b →
+      marks : (n : ℕ) (ts more : List T) (v : ℕ) → length (ts ++ more) < b →
           (counted p left).words n (ts ++ more) v → left < count_by c ts → EndsWith c ts →
           (counted p left).marks n ts
-      marks left n ts more v l (t, e, pt, ev) lt h =
+      marks n ts more v l (t, e, pt, ev) lt h =
           let one : length (ts ++ more) ≡ 1 = ap length e in
           let few : count_by c ts ≤ length ts = count_by-le-length c ts in
           let none : more ≡ [] = nil_of_length more (omega (arith, length-append ts more)) in (
@@ -173,10 +184,11 @@ module _ {T : Type 0} (c : T → Bool) where
   sum_length ts u v e = ap length e ∙ length-append u v
 
   -- The second form need only count on texts shorter than what the first one leaves.
-  pub counts_bind : (b d : ℕ) (R S : ℕ → Form T ℕ) → Counts c b R → Counts c d S →
-      ((left n x : ℕ) (u v : List T) → (R left).words n u x → length u + length v < b → length v < d) → Counts c b
-      (λ left. R left >>= S)
-  counts_bind b d R S hr hs short = record {
+  pub counts_bind : {A V : Type 0} (b d left : ℕ) (mid : A → ℕ) (out : V → ℕ) (f : Form T A) (g : A → Form T V) →
+      Counts c b left mid f → ((x : A) → Counts c d (mid x) out (g x)) →
+      ((n : ℕ) (x : A) (u v : List T) → f.words n u x → length u + length v < b → length v < d) →
+      Counts c b left out (f >>= g)
+  counts_bind {A} {V} b d left mid out f g hf hg short = record {
     has = has;
     spent = spent;
     past = past;
@@ -185,57 +197,56 @@ module _ {T : Type 0} (c : T → Bool) where
     marks = marks;
   }
     where
-      has : (left n : ℕ) → (w : List T) × (v : ℕ) × (R left >>= S).words n w v
-      has left n =
-          let r = hr.has left n in
-          let s = hs.has r.1 (n + length r.0) in
+      has : (n : ℕ) → (w : List T) × (v : V) × (f >>= g).words n w v
+      has n =
+          let r = hf.has n in
+          let s = (hg r.1).has (n + length r.0) in
           (r.0 ++ s.0, s.1, (r.0, s.0, r.1, r.2, s.2, refl))
 
-      spent : (left n : ℕ) (ts : List T) (y : ℕ) → length ts < b → (R left >>= S).words n ts y →
-          y ≡ left - count_by c ts
-      spent left n ts y l (u, v, x, fw, gw, e) =
+      spent : (n : ℕ) (ts : List T) (y : V) → length ts < b → (f >>= g).words n ts y → out y ≡ left - count_by c ts
+      spent n ts y l (u, v, x, fw, gw, e) =
           let sum : length ts ≡ length u + length v = sum_length ts u v e in
           let count : count_by c ts ≡ count_by c u + count_by c v = count_sum c ts u v e in
-          let first : x ≡ left - count_by c u = hr.spent left n u x (omega arith) fw in
-          let second : y ≡ x - count_by c v = hs.spent x (n + length u) v y (short left n x u v fw (omega arith)) gw in
+          let first : mid x ≡ left - count_by c u = hf.spent n u x (omega arith) fw in
+          let second : out y ≡ mid x - count_by c v =
+          (hg x).spent (n + length u) v y (short n x u v fw (omega arith)) gw in
           omega arith
 
-      past : (left n : ℕ) (ts : List T) → length ts < b → (R left >>= S).marks n ts → left < count_by c ts
-      past left n ts l (inl m) = hr.past left n ts l m
-      past left n ts l (inr (u, v, x, fw, m, e)) =
+      past : (n : ℕ) (ts : List T) → length ts < b → (f >>= g).marks n ts → left < count_by c ts
+      past n ts l (inl m) = hf.past n ts l m
+      past n ts l (inr (u, v, x, fw, m, e)) =
           let sum : length ts ≡ length u + length v = sum_length ts u v e in
           let count : count_by c ts ≡ count_by c u + count_by c v = count_sum c ts u v e in
-          let first : x ≡ left - count_by c u = hr.spent left n u x (omega arith) fw in
-          let second : x < count_by c v = hs.past x (n + length u) v (short left n x u v fw (omega arith)) m in
+          let first : mid x ≡ left - count_by c u = hf.spent n u x (omega arith) fw in
+          let second : mid x < count_by c v = (hg x).past (n + length u) v (short n x u v fw (omega arith)) m in
           omega arith
 
-      ends : (left n : ℕ) (ts : List T) → length ts < b → (R left >>= S).marks n ts → EndsWith c ts
-      ends left n ts l (inl m) = hr.ends left n ts l m
-      ends left n ts l (inr (u, v, x, fw, m, e)) =
+      ends : (n : ℕ) (ts : List T) → length ts < b → (f >>= g).marks n ts → EndsWith c ts
+      ends n ts l (inl m) = hf.ends n ts l m
+      ends n ts l (inr (u, v, x, fw, m, e)) =
           let sum : length ts ≡ length u + length v = sum_length ts u v e in
-          subst (EndsWith c) (sym e) (ends_behind c u v (hs.ends x (n + length u) v
-          (short left n x u v fw (omega arith)) m))
+          subst (EndsWith c) (sym e) (ends_behind c u v ((hg x).ends (n + length u) v
+          (short n x u v fw (omega arith)) m))
 
-      goes_on : (left n : ℕ) (ts : List T) → length ts < b → (R left >>= S).marks n ts →
-          Possible ((R left >>= S).words n) ts
-      goes_on left n ts l (inl m) =
-          let r = hr.goes_on left n ts l m in
-          let s = hs.has r.1 (n + length (ts ++ r.0)) in
+      goes_on : (n : ℕ) (ts : List T) → length ts < b → (f >>= g).marks n ts → Possible ((f >>= g).words n) ts
+      goes_on n ts l (inl m) =
+          let r = hf.goes_on n ts l m in
+          let s = (hg r.1).has (n + length (ts ++ r.0)) in
           (r.0 ++ s.0, s.1, (ts ++ r.0, s.0, r.1, r.2, s.2, sym (append_assoc ts r.0 s.0)))
-      goes_on left n ts l (inr (u, v, x, fw, m, e)) =
+      goes_on n ts l (inr (u, v, x, fw, m, e)) =
           let sum : length ts ≡ length u + length v = sum_length ts u v e in
-          let s = hs.goes_on x (n + length u) v (short left n x u v fw (omega arith)) m in
+          let s = (hg x).goes_on (n + length u) v (short n x u v fw (omega arith)) m in
           (s.0, s.1, (u, v ++ s.0, x, fw, s.2, ap (λ z. z ++ s.0) e ∙ append_assoc u v s.0))
 
-      marks : (left n : ℕ) (ts more : List T) (y : ℕ) → length (ts ++ more) < b →
-          (R left >>= S).words n (ts ++ more) y → left < count_by c ts → EndsWith c ts →
-          (R left >>= S).marks n ts
-      marks left n ts more y l (u, v, x, fw, gw, e) lt h =
+      marks : (n : ℕ) (ts more : List T) (y : V) → length (ts ++ more) < b →
+          (f >>= g).words n (ts ++ more) y → left < count_by c ts → EndsWith c ts →
+          (f >>= g).marks n ts
+      marks n ts more y l (u, v, x, fw, gw, e) lt h =
           let sum : length (ts ++ more) ≡ length u + length v = sum_length (ts ++ more) u v e in
-          let first : x ≡ left - count_by c u = hr.spent left n u x (omega arith) fw in
+          let first : mid x ≡ left - count_by c u = hf.spent n u x (omega arith) fw in
           elim (split_front ts more u v e) [
-            | inl i ↦ inl (hr.marks left n ts i.0 x (subst (λ z. length z < b) i.1 (omega arith))
-                (subst (λ z. (R left).words n z x) i.1 fw) lt h)
+            | inl i ↦ inl (hf.marks n ts i.0 x (subst (λ z. length z < b) i.1 (omega arith))
+                (subst (λ z. f.words n z x) i.1 fw) lt h)
             | inr i ↦
                 let part : count_by c ts ≡ count_by c u + count_by c i.0 = count_sum c ts u i.0 i.1 in
                 let last : EndsWith c i.0 = ends_right c u i.0 (subst (EndsWith c) i.1 h) i.3 in
@@ -245,22 +256,24 @@ module _ {T : Type 0} (c : T → Bool) where
                   i.0,
                   x,
                   fw,
-                  hs.marks x (n + length u) i.0 more y (subst (λ z. length z < d) i.2
-                      (short left n x u v fw (omega arith)))
-                      (subst (λ z. (S x).words (n + length u) z y) i.2 gw) (omega arith) last,
+                  (hg x).marks (n + length u) i.0 more y (subst (λ z. length z < d) i.2
+                      (short n x u v fw (omega arith)))
+                      (subst (λ z. (g x).words (n + length u) z y) i.2 gw) (omega arith) last,
                   i.1,
                 )
           ]
 
-  pub counts_then : (b : ℕ) (R S : ℕ → Form T ℕ) → Counts c b R → Counts c b S → Counts c b (λ left. R left >>= S)
-  counts_then b R S hr hs = counts_bind b b R S hr hs (λ left n x u v fw l. omega arith)
+  pub counts_then : {A V : Type 0} (b left : ℕ) (mid : A → ℕ) (out : V → ℕ) (f : Form T A) (g : A → Form T V) →
+      Counts c b left mid f → ((x : A) → Counts c b (mid x) out (g x)) → Counts c b left out (f >>= g)
+  counts_then b left mid out f g hf hg = counts_bind b b left mid out f g hf hg (λ n x u v fw l. omega arith)
 
   -- behind a token the bound is one more
-  pub counts_behind : (b : ℕ) (p : T → Bool) (w : T) (S : ℕ → Form T ℕ) → p w ≡ true →
-      ((t : T) → p t ≡ true → c t ≡ true) → Counts c b S →
-      Counts c (suc b) (λ left. counted p left >>= S)
-  counts_behind b p w S pw each hs = counts_bind (suc b) b (counted p) S (counts_counted (suc b) p w pw each) hs
-      (λ left n x u v (t, e, pt, ev) l. let one : length u ≡ 1 = ap length e in omega arith)
+  pub counts_behind : {V : Type 0} (b left : ℕ) (out : V → ℕ) (p : T → Bool) (w : T) (g : ℕ → Form T V) → p w ≡ true →
+      ((t : T) → p t ≡ true → c t ≡ true) → ((x : ℕ) → Counts c b x out (g x)) →
+      Counts c (suc b) left out (counted p left >>= g)
+  counts_behind b left out p w g pw each hg = counts_bind (suc b) b left itself out (counted p left) g
+      (counts_counted (suc b) left p w pw each) hg
+      (λ n x u v (t, e, pt, ev) l. let one : length u ≡ 1 = ap length e in omega arith)
 
   -- ---- a form that takes one token that does not count, and then one that counts
 
@@ -269,62 +282,62 @@ module _ {T : Type 0} (c : T → Bool) where
     pub one : (n : ℕ) (ts : List T) → f.words n ts tt → (t : T) × (ts ≡ t ∷ []) × (c t ≡ false)
     pub unmarked : (n : ℕ) (ts : List T) → f.marks n ts → ⊥
 
-  module _ (b : ℕ) (f : Form T (Unit {0})) (S : ℕ → Form T ℕ) (hf : Skips f) (hs : Counts c b S) where
+  module _ {V : Type 0} (b left : ℕ) (out : V → ℕ) (f : Form T (Unit {0})) (g : Form T V) (hf : Skips f)
+      (hg : Counts c b left out g) where
     skipped_none : (n : ℕ) (u : List T) → f.words n u tt → count_by c u ≡ 0
     skipped_none n u fw = let o = hf.one n u fw in ap (count_by c) o.1 ∙ count_none c o.0 o.2
 
     skipped_length : (n : ℕ) (u : List T) → f.words n u tt → length u ≡ 1
     skipped_length n u fw = let o = hf.one n u fw in ap length o.1
 
-    pub counts_skip : Counts c (suc b) (λ left. f >>= (λ _. S left))
+    pub counts_skip : Counts c (suc b) left out (f >>= (λ _. g))
     counts_skip = record { has = has; spent = spent; past = past; ends = ends; goes_on = goes_on; marks = marks }
       where
-        has : (left n : ℕ) → (w : List T) × (v : ℕ) × (f >>= (λ _. S left)).words n w v
-        has left n =
+        has : (n : ℕ) → (w : List T) × (v : V) × (f >>= (λ _. g)).words n w v
+        has n =
             let r = hf.has n in
-            let s = hs.has left (n + length r.0) in
+            let s = hg.has (n + length r.0) in
             (r.0 ++ s.0, s.1, (r.0, s.0, tt, r.1, s.2, refl))
 
-        spent : (left n : ℕ) (ts : List T) (y : ℕ) → length ts < suc b → (f >>= (λ _. S left)).words n ts y →
-            y ≡ left - count_by c ts
-        spent left n ts y l (u, v, x, fw, gw, e) =
+        spent : (n : ℕ) (ts : List T) (y : V) → length ts < suc b → (f >>= (λ _. g)).words n ts y →
+            out y ≡ left - count_by c ts
+        spent n ts y l (u, v, x, fw, gw, e) =
             let sum : length ts ≡ length u + length v = sum_length ts u v e in
             let count : count_by c ts ≡ count_by c u + count_by c v = count_sum c ts u v e in
             let none : count_by c u ≡ 0 = skipped_none n u fw in
             let one : length u ≡ 1 = skipped_length n u fw in
-            let second : y ≡ left - count_by c v = hs.spent left (n + length u) v y (omega arith) gw in
+            let second : out y ≡ left - count_by c v = hg.spent (n + length u) v y (omega arith) gw in
             omega arith
 
-        past : (left n : ℕ) (ts : List T) → length ts < suc b → (f >>= (λ _. S left)).marks n ts →
-            left < count_by c ts
-        past left n ts l (inl m) = absurd (hf.unmarked n ts m)
-        past left n ts l (inr (u, v, x, fw, m, e)) =
+        past : (n : ℕ) (ts : List T) → length ts < suc b → (f >>= (λ _. g)).marks n ts → left < count_by c ts
+        past n ts l (inl m) = absurd (hf.unmarked n ts m)
+        past n ts l (inr (u, v, x, fw, m, e)) =
             let sum : length ts ≡ length u + length v = sum_length ts u v e in
             let count : count_by c ts ≡ count_by c u + count_by c v = count_sum c ts u v e in
             let one : length u ≡ 1 = skipped_length n u fw in
-            let second : left < count_by c v = hs.past left (n + length u) v (omega arith) m in
+            let second : left < count_by c v = hg.past (n + length u) v (omega arith) m in
             omega arith
 
-        ends : (left n : ℕ) (ts : List T) → length ts < suc b → (f >>= (λ _. S left)).marks n ts → EndsWith c ts
-        ends left n ts l (inl m) = absurd (hf.unmarked n ts m)
-        ends left n ts l (inr (u, v, x, fw, m, e)) =
+        ends : (n : ℕ) (ts : List T) → length ts < suc b → (f >>= (λ _. g)).marks n ts → EndsWith c ts
+        ends n ts l (inl m) = absurd (hf.unmarked n ts m)
+        ends n ts l (inr (u, v, x, fw, m, e)) =
             let sum : length ts ≡ length u + length v = sum_length ts u v e in
             let one : length u ≡ 1 = skipped_length n u fw in
-            subst (EndsWith c) (sym e) (ends_behind c u v (hs.ends left (n + length u) v (omega arith) m))
+            subst (EndsWith c) (sym e) (ends_behind c u v (hg.ends (n + length u) v (omega arith) m))
 
-        goes_on : (left n : ℕ) (ts : List T) → length ts < suc b → (f >>= (λ _. S left)).marks n ts →
-            Possible ((f >>= (λ _. S left)).words n) ts
-        goes_on left n ts l (inl m) = absurd (hf.unmarked n ts m)
-        goes_on left n ts l (inr (u, v, x, fw, m, e)) =
+        goes_on : (n : ℕ) (ts : List T) → length ts < suc b → (f >>= (λ _. g)).marks n ts →
+            Possible ((f >>= (λ _. g)).words n) ts
+        goes_on n ts l (inl m) = absurd (hf.unmarked n ts m)
+        goes_on n ts l (inr (u, v, x, fw, m, e)) =
             let sum : length ts ≡ length u + length v = sum_length ts u v e in
             let one : length u ≡ 1 = skipped_length n u fw in
-            let s = hs.goes_on left (n + length u) v (omega arith) m in
+            let s = hg.goes_on (n + length u) v (omega arith) m in
             (s.0, s.1, (u, v ++ s.0, x, fw, s.2, ap (λ z. z ++ s.0) e ∙ append_assoc u v s.0))
 
-        marks : (left n : ℕ) (ts more : List T) (y : ℕ) → length (ts ++ more) < suc b →
-            (f >>= (λ _. S left)).words n (ts ++ more) y → left < count_by c ts → EndsWith c ts →
-            (f >>= (λ _. S left)).marks n ts
-        marks left n ts more y l (u, v, x, fw, gw, e) lt h =
+        marks : (n : ℕ) (ts more : List T) (y : V) → length (ts ++ more) < suc b →
+            (f >>= (λ _. g)).words n (ts ++ more) y → left < count_by c ts → EndsWith c ts →
+            (f >>= (λ _. g)).marks n ts
+        marks n ts more y l (u, v, x, fw, gw, e) lt h =
             let sum : length (ts ++ more) ≡ length u + length v = sum_length (ts ++ more) u v e in
             let none : count_by c u ≡ 0 = skipped_none n u fw in
             let one : length u ≡ 1 = skipped_length n u fw in
@@ -338,19 +351,33 @@ module _ {T : Type 0} (c : T → Bool) where
                     i.0,
                     x,
                     fw,
-                    hs.marks left (n + length u) i.0 more y (omega arith)
-                        (subst (λ z. (S left).words (n + length u) z y) i.2 gw) (omega arith)
+                    hg.marks (n + length u) i.0 more y (omega arith)
+                        (subst (λ z. g.words (n + length u) z y) i.2 gw) (omega arith)
                         (ends_right c u i.0 (subst (EndsWith c) i.1 h) i.3),
                     i.1,
                   )
             ]
 
+  -- ---- with the numbers of its tokens
+
+  pub counts_placed : {A V : Type 0} (b left : ℕ) (mid : A → ℕ) (out : V → ℕ) (make : ℕ → A → ℕ → V) (f : Form T A) →
+      ((n : ℕ) (v : A) (m : ℕ) → out (make n v m) ≡ mid v) → Counts c b left mid f → Counts c b left out (placed make f)
+  counts_placed {A} {V} b left mid out make f same hf =
+      let h : Counts c b left out (ranged make f) = inside in
+      record { has = h.has; spent = h.spent; past = h.past; ends = h.ends; goes_on = h.goes_on; marks = h.marks }
+    where
+      inside : Counts c b left out (ranged make f)
+      inside = counts_then b left (λ _. left) out place (λ first. f >>= (λ v. silent (λ past. make first v past)))
+          (counts_silent b left (λ _. left) (λ n. n) (λ n. refl))
+          (λ first. counts_then b left mid out f (λ v. silent (λ past. make first v past)) hf
+          (λ v. counts_silent b (mid v) out (λ past. make first v past) (λ past. same first v past)))
+
   -- ---- the one or the other
 
-  pub counts_either : (b : ℕ) (R S : ℕ → Form T ℕ) → Counts c b R → Counts c b S →
-      Counts c b (λ left. either (R left) (S left))
-  counts_either b R S hr hs = record {
-    has = λ left n. let r = hr.has left n in (r.0, r.1, inl r.2);
+  pub counts_either : {V : Type 0} (b left : ℕ) (out : V → ℕ) (f g : Form T V) → Counts c b left out f →
+      Counts c b left out g → Counts c b left out (either f g)
+  counts_either {V} b left out f g hf hg = record {
+    has = λ n. let r = hf.has n in (r.0, r.1, inl r.2);
     spent = spent;
     past = past;
     ends = ends;
@@ -358,52 +385,52 @@ module _ {T : Type 0} (c : T → Bool) where
     marks = marks;
   }
     where
-      spent : (left n : ℕ) (ts : List T) (y : ℕ) → length ts < b → (either (R left) (S left)).words n ts y →
-          y ≡ left - count_by c ts
-      spent left n ts y l (inl w) = hr.spent left n ts y l w
-      spent left n ts y l (inr w) = hs.spent left n ts y l w
+      spent : (n : ℕ) (ts : List T) (y : V) → length ts < b → (either f g).words n ts y →
+          out y ≡ left - count_by c ts
+      spent n ts y l (inl w) = hf.spent n ts y l w
+      spent n ts y l (inr w) = hg.spent n ts y l w
 
-      past : (left n : ℕ) (ts : List T) → length ts < b → (either (R left) (S left)).marks n ts →
-          left < count_by c ts
-      past left n ts l (inl m) = hr.past left n ts l m
-      past left n ts l (inr m) = hs.past left n ts l m
+      past : (n : ℕ) (ts : List T) → length ts < b → (either f g).marks n ts → left < count_by c ts
+      past n ts l (inl m) = hf.past n ts l m
+      past n ts l (inr m) = hg.past n ts l m
 
-      ends : (left n : ℕ) (ts : List T) → length ts < b → (either (R left) (S left)).marks n ts → EndsWith c ts
-      ends left n ts l (inl m) = hr.ends left n ts l m
-      ends left n ts l (inr m) = hs.ends left n ts l m
+      ends : (n : ℕ) (ts : List T) → length ts < b → (either f g).marks n ts → EndsWith c ts
+      ends n ts l (inl m) = hf.ends n ts l m
+      ends n ts l (inr m) = hg.ends n ts l m
 
-      goes_on : (left n : ℕ) (ts : List T) → length ts < b → (either (R left) (S left)).marks n ts →
-          Possible ((either (R left) (S left)).words n) ts
-      goes_on left n ts l (inl m) = let r = hr.goes_on left n ts l m in (r.0, r.1, inl r.2)
-      goes_on left n ts l (inr m) = let r = hs.goes_on left n ts l m in (r.0, r.1, inr r.2)
+      goes_on : (n : ℕ) (ts : List T) → length ts < b → (either f g).marks n ts → Possible ((either f g).words n) ts
+      goes_on n ts l (inl m) = let r = hf.goes_on n ts l m in (r.0, r.1, inl r.2)
+      goes_on n ts l (inr m) = let r = hg.goes_on n ts l m in (r.0, r.1, inr r.2)
 
-      marks : (left n : ℕ) (ts more : List T) (y : ℕ) → length (ts ++ more) < b →
-          (either (R left) (S left)).words n (ts ++ more) y → left < count_by c ts → EndsWith c ts →
-          (either (R left) (S left)).marks n ts
-      marks left n ts more y l (inl w) lt h = inl (hr.marks left n ts more y l w lt h)
-      marks left n ts more y l (inr w) lt h = inr (hs.marks left n ts more y l w lt h)
+      marks : (n : ℕ) (ts more : List T) (y : V) → length (ts ++ more) < b →
+          (either f g).words n (ts ++ more) y → left < count_by c ts → EndsWith c ts →
+          (either f g).marks n ts
+      marks n ts more y l (inl w) lt h = inl (hf.marks n ts more y l w lt h)
+      marks n ts more y l (inr w) lt h = inr (hg.marks n ts more y l w lt h)
 
   -- ---- any number of turns
 
   plus_length : (n : ℕ) (u v : List T) → n + length (u ++ v) ≡ n + length u + length v
   plus_length n u v = omega (arith, length-append u v)
 
-  module _ (b : ℕ) (p : ℕ → T → Bool) (f : ℕ → Form T ℕ) (h : Counts c b f) where
-    loop_spent : (i s n : ℕ) (ts : List T) (y : ℕ) → length ts < b → loop_words f i s n ts y →
-        y ≡ s - count_by c ts
+  module _ {S : Type 0} (b : ℕ) (out : S → ℕ) (p : S → T → Bool) (f : S → Form T S)
+      (h : (s : S) → Counts c b (out s) out (f s)) where
+    loop_spent : (i : ℕ) (s : S) (n : ℕ) (ts : List T) (y : S) → length ts < b → loop_words f i s n ts y →
+        out y ≡ out s - count_by c ts
     loop_spent zero s n ts y l (e, ey) =
         let none : length ts ≡ 0 = ap length e in
+        let this : out y ≡ out s = ap out ey in
         omega (arith, count_by-le-length c ts)
     loop_spent (suc i) s n ts y l (u, v, x, fw, w, e) =
         let sum : length ts ≡ length u + length v = sum_length ts u v e in
         let count : count_by c ts ≡ count_by c u + count_by c v = count_sum c ts u v e in
-        let first : x ≡ s - count_by c u = h.spent s n u x (omega arith) fw in
-        let second : y ≡ x - count_by c v = loop_spent i x (n + length u) v y (omega arith) w in
+        let first : out x ≡ out s - count_by c u = (h s).spent n u x (omega arith) fw in
+        let second : out y ≡ out x - count_by c v = loop_spent i x (n + length u) v y (omega arith) w in
         omega arith
 
     -- one turn more at the end
-    loop_more : (i s n : ℕ) (u w : List T) (x y : ℕ) → loop_words f i s n u x → (f x).words (n + length u) w y →
-        loop_words f (suc i) s n (u ++ w) y
+    loop_more : (i : ℕ) (s : S) (n : ℕ) (u w : List T) (x y : S) → loop_words f i s n u x →
+        (f x).words (n + length u) w y → loop_words f (suc i) s n (u ++ w) y
     loop_more zero s n u w x y (e, ex) fw =
         let fw1 : (f s).words (n + length u) w y = subst (λ z. (f z).words (n + length u) w y) ex fw in
         let fw2 : (f s).words (n + 0) w y = subst (λ z. (f s).words (n + length z) w y) e fw1 in (
@@ -426,14 +453,14 @@ module _ {T : Type 0} (c : T → Bool) where
           ap (λ z. z ++ w) e ∙ append_assoc u1 u2 w,
         )
 
-    loop_marks : (i s n : ℕ) (ts more : List T) (y : ℕ) → length (ts ++ more) < b →
-        loop_words f i s n (ts ++ more) y → s < count_by c ts → EndsWith c ts → (loop p f s).marks n ts
+    loop_marks : (i : ℕ) (s : S) (n : ℕ) (ts more : List T) (y : S) → length (ts ++ more) < b →
+        loop_words f i s n (ts ++ more) y → out s < count_by c ts → EndsWith c ts → (loop p f s).marks n ts
     loop_marks zero s n ts more y l (e, ey) lt last =
         let none : length (ts ++ more) ≡ 0 = ap length e in
         absurd (omega (arith, length-append ts more, count_by-le-length c ts))
     loop_marks (suc i) s n ts more y l (u, v, x, fw, w, e) lt last =
         let sum : length (ts ++ more) ≡ length u + length v = sum_length (ts ++ more) u v e in
-        let first : x ≡ s - count_by c u = h.spent s n u x (omega arith) fw in
+        let first : out x ≡ out s - count_by c u = (h s).spent n u x (omega arith) fw in
         elim (split_front ts more u v e) [
           | inl d ↦ (
             0,
@@ -442,7 +469,7 @@ module _ {T : Type 0} (c : T → Bool) where
             s,
             (refl, refl),
             subst (λ z. (f s).marks z ts) (sym (add-zero n))
-                (h.marks s n ts d.0 x (subst (λ z. length z < b) d.1 (omega arith))
+                ((h s).marks n ts d.0 x (subst (λ z. length z < b) d.1 (omega arith))
                 (subst (λ z. (f s).words n z x) d.1 fw) lt last),
             refl,
           )
@@ -462,118 +489,119 @@ module _ {T : Type 0} (c : T → Bool) where
               )
         ]
 
-    pub counts_loop : Counts c b (loop p f)
-    counts_loop = record {
-      has = λ left n. ([], left, (0, (refl, refl)));
-      spent = λ left n ts v l w. loop_spent w.0 left n ts v l w.1;
+    pub counts_loop : (s : S) → Counts c b (out s) out (loop p f s)
+    counts_loop s = record {
+      has = λ n. ([], s, (0, (refl, refl)));
+      spent = λ n ts v l w. loop_spent w.0 s n ts v l w.1;
       past = past;
       ends = ends;
       goes_on = goes_on;
-      marks = λ left n ts more v l w lt last. loop_marks w.0 left n ts more v l w.1 lt last;
+      marks = λ n ts more v l w lt last. loop_marks w.0 s n ts more v l w.1 lt last;
     }
       where
-        past : (left n : ℕ) (ts : List T) → length ts < b → (loop p f left).marks n ts → left < count_by c ts
-        past left n ts l (i, u, v, x, w, m, e) =
+        past : (n : ℕ) (ts : List T) → length ts < b → (loop p f s).marks n ts → out s < count_by c ts
+        past n ts l (i, u, v, x, w, m, e) =
             let sum : length ts ≡ length u + length v = sum_length ts u v e in
             let count : count_by c ts ≡ count_by c u + count_by c v = count_sum c ts u v e in
-            let first : x ≡ left - count_by c u = loop_spent i left n u x (omega arith) w in
-            let second : x < count_by c v = h.past x (n + length u) v (omega arith) m in
+            let first : out x ≡ out s - count_by c u = loop_spent i s n u x (omega arith) w in
+            let second : out x < count_by c v = (h x).past (n + length u) v (omega arith) m in
             omega arith
 
-        ends : (left n : ℕ) (ts : List T) → length ts < b → (loop p f left).marks n ts → EndsWith c ts
-        ends left n ts l (i, u, v, x, w, m, e) =
+        ends : (n : ℕ) (ts : List T) → length ts < b → (loop p f s).marks n ts → EndsWith c ts
+        ends n ts l (i, u, v, x, w, m, e) =
             let sum : length ts ≡ length u + length v = sum_length ts u v e in
-            subst (EndsWith c) (sym e) (ends_behind c u v (h.ends x (n + length u) v (omega arith) m))
+            subst (EndsWith c) (sym e) (ends_behind c u v ((h x).ends (n + length u) v (omega arith) m))
 
-        goes_on : (left n : ℕ) (ts : List T) → length ts < b → (loop p f left).marks n ts →
-            Possible ((loop p f left).words n) ts
-        goes_on left n ts l (i, u, v, x, w, m, e) =
+        goes_on : (n : ℕ) (ts : List T) → length ts < b → (loop p f s).marks n ts → Possible ((loop p f s).words n) ts
+        goes_on n ts l (i, u, v, x, w, m, e) =
             let sum : length ts ≡ length u + length v = sum_length ts u v e in
-            let g = h.goes_on x (n + length u) v (omega arith) m in (
+            let g = (h x).goes_on (n + length u) v (omega arith) m in (
               g.0,
               g.1,
               (
                 suc i,
-                subst (λ z. loop_words f (suc i) left n z g.1)
-                    (sym (ap (λ z. z ++ g.0) e ∙ append_assoc u v g.0)) (loop_more i left n u (v ++ g.0) x g.1 w g.2),
+                subst (λ z. loop_words f (suc i) s n z g.1)
+                    (sym (ap (λ z. z ++ g.0) e ∙ append_assoc u v g.0)) (loop_more i s n u (v ++ g.0) x g.1 w g.2),
               ),
             )
 
   -- ---- a form that stands in itself
 
-  pub counts_nested : (p : T → Bool) (body : (ℕ → Form T ℕ) → ℕ → Form T ℕ) → Grows body → Lessens body →
-      ((left n : ℕ) → (w : List T) × (v : ℕ) × (nested p body left).words n w v) →
-      ((b : ℕ) → Counts c b (nested p body) → Counts c (suc b) (body (nested p body))) → (b : ℕ) →
-      Counts c b (nested p body)
-  counts_nested p body grows lessens word step zero = record {
-    has = word;
-    spent = λ left n ts v l w. absurd (omega arith);
-    past = λ left n ts l m. absurd (omega arith);
-    ends = λ left n ts l m. absurd (omega arith);
-    goes_on = λ left n ts l m. absurd (omega arith);
-    marks = λ left n ts more v l w lt last. absurd (omega arith);
+  pub counts_nested : {V : Type 0} (out : V → ℕ) (p : T → Bool) (body : (ℕ → Form T V) → ℕ → Form T V) → Grows body →
+      Lessens body → ((left n : ℕ) → (w : List T) × (v : V) × (nested p body left).words n w v) →
+      ((b : ℕ) → ((left : ℕ) → Counts c b left out (nested p body left)) → (left : ℕ) →
+      Counts c (suc b) left out (body (nested p body) left)) → (b left : ℕ) →
+      Counts c b left out (nested p body left)
+  counts_nested out p body grows lessens word step zero left = record {
+    has = word left;
+    spent = λ n ts v l w. absurd (omega arith);
+    past = λ n ts l m. absurd (omega arith);
+    ends = λ n ts l m. absurd (omega arith);
+    goes_on = λ n ts l m. absurd (omega arith);
+    marks = λ n ts more v l w lt last. absurd (omega arith);
   }
-  counts_nested p body grows lessens word step (suc b) =
-      let h : Counts c (suc b) (body (nested p body)) = step b (counts_nested p body grows lessens word step b) in
+  counts_nested out p body grows lessens word step (suc b) left =
+      let h : Counts c (suc b) left out (body (nested p body) left) =
+      step b (counts_nested out p body grows lessens word step b) left in
       record {
-        has = word;
-        spent = λ left n ts v l w. h.spent left n ts v l ((same left).no_words n ts v w);
-        past = λ left n ts l m. h.past left n ts l ((same left).no_marks n ts m);
-        ends = λ left n ts l m. h.ends left n ts l ((same left).no_marks n ts m);
-        goes_on = λ left n ts l m. let g = h.goes_on left n ts l ((same left).no_marks n ts m)
-            in (g.0, g.1, (same left).words n (ts ++ g.0) g.1 g.2);
-        marks = λ left n ts more v l w lt last. (same left).marks n ts
-            (h.marks left n ts more v l ((same left).no_words n (ts ++ more) v w) lt last);
+        has = word left;
+        spent = λ n ts v l w. h.spent n ts v l (same.no_words n ts v w);
+        past = λ n ts l m. h.past n ts l (same.no_marks n ts m);
+        ends = λ n ts l m. h.ends n ts l (same.no_marks n ts m);
+        goes_on = λ n ts l m. let g = h.goes_on n ts l (same.no_marks n ts m)
+            in (g.0, g.1, same.words n (ts ++ g.0) g.1 g.2);
+        marks = λ n ts more v l w lt last. same.marks n ts
+            (h.marks n ts more v l (same.no_words n (ts ++ more) v w) lt last);
       }
     where
-      same : (left : ℕ) → Same (body (nested p body) left) (nested p body left)
-      same left = unroll p body grows lessens left
+      same : Same (body (nested p body) left) (nested p body left)
+      same = unroll p body grows lessens left
 
   -- ---- which fronts are marks, and which is the first
 
-  module _ (R : ℕ → Form T ℕ) (h : (b : ℕ) → Counts c b R) (left n : ℕ) where
+  module _ {V : Type 0} (left : ℕ) (out : V → ℕ) (f : Form T V) (h : (b : ℕ) → Counts c b left out f) (n : ℕ) where
     -- what ends with a token that counts and has too many is marked
-    pub marked : (front more : List T) (v : ℕ) → (R left).words n (front ++ more) v → left < count_by c front →
-        EndsWith c front → (R left).marks n front
-    marked front more v w lt last = (h (suc (length (front ++ more)))).marks left n front more v (omega arith) w lt last
+    pub marked : (front more : List T) (v : V) → f.words n (front ++ more) v → left < count_by c front →
+        EndsWith c front → f.marks n front
+    marked front more v w lt last = (h (suc (length (front ++ more)))).marks n front more v (omega arith) w lt last
 
-    pub marks_are : (front : List T) → (R left).marks n front ↔
-        (EndsWith c front × (left < count_by c front) × Possible ((R left).words n) front)
+    pub marks_are : (front : List T) → f.marks n front ↔
+        (EndsWith c front × (left < count_by c front) × Possible (f.words n) front)
     marks_are front = (
       λ m. (
-        there.ends left n front (omega arith) m,
-        there.past left n front (omega arith) m,
-        there.goes_on left n front (omega arith) m,
+        there.ends n front (omega arith) m,
+        there.past n front (omega arith) m,
+        there.goes_on n front (omega arith) m,
       ),
       λ (last, lt, (more, v, w)). marked front more v w lt last,
     )
       where
-        there : Counts c (suc (length front)) R
+        there : Counts c (suc (length front)) left out f
         there = h (suc (length front))
 
     -- a front that has too many has a mark in it
-    not_unmarked : (front more : List T) (v : ℕ) → (R left).words n (front ++ more) v → left < count_by c front →
-        Unmarked ((R left).marks n) front → ⊥
+    not_unmarked : (front more : List T) (v : V) → f.words n (front ++ more) v → left < count_by c front →
+        Unmarked (f.marks n) front → ⊥
     not_unmarked front more v w lt un =
         let t = trimmed c front (omega arith) in
         un t.0 t.1 t.2 (marked t.0 (t.1 ++ more) v
-        (subst (λ z. (R left).words n z v) (ap (λ z. z ++ more) t.2 ∙ append_assoc t.0 t.1 more) w) (omega (arith, t.4))
+        (subst (λ z. f.words n z v) (ap (λ z. z ++ more) t.2 ∙ append_assoc t.0 t.1 more) w) (omega (arith, t.4))
         t.3)
 
     -- the first mark ends with the token that is one too many
-    pub first_mark : (front : List T) (t : T) → IsFirstMark ((R left).marks n) front t ↔
-        ((c t ≡ true) × (count_by c front ≡ left) × Possible ((R left).words n) (front ++ t ∷ []))
+    pub first_mark : (front : List T) (t : T) → IsFirstMark (f.marks n) front t ↔
+        ((c t ≡ true) × (count_by c front ≡ left) × Possible (f.words n) (front ++ t ∷ []))
     first_mark front t = (there, back)
       where
-        there : IsFirstMark ((R left).marks n) front t →
-            (c t ≡ true) × (count_by c front ≡ left) × Possible ((R left).words n) (front ++ t ∷ [])
+        there : IsFirstMark (f.marks n) front t →
+            (c t ≡ true) × (count_by c front ≡ left) × Possible (f.words n) (front ++ t ∷ [])
         there (m, un) =
             let k = (marks_are (front ++ t ∷ [])).0 m in
-            let possible : Possible ((R left).words n) (front ++ t ∷ []) = k.2 in
+            let possible : Possible (f.words n) (front ++ t ∷ []) = k.2 in
             let last : EndsWith c (t ∷ []) = ends_right c front (t ∷ []) k.0 (omega arith) in
             let this : c t ≡ true = only_last last in
-            let word : (R left).words n (front ++ (t ∷ possible.0)) possible.1 =
-            subst (λ z. (R left).words n z possible.1) (append_assoc front (t ∷ []) possible.0) possible.2 in
+            let word : f.words n (front ++ (t ∷ possible.0)) possible.1 =
+            subst (λ z. f.words n z possible.1) (append_assoc front (t ∷ []) possible.0) possible.2 in
             let no : left < count_by c front → ⊥ = λ lt. not_unmarked front (t ∷ possible.0) possible.1 word lt un in
             (this, omega (arith, no, k.1, count_append c front (t ∷ []), count_one c t this), possible)
           where
@@ -583,8 +611,8 @@ module _ {T : Type 0} (c : T → Bool) where
                 let len : 0 ≡ length (ys ++ x ∷ []) = ap length (tail_is t y [] (ys ++ x ∷ []) e) in
                 absurd (omega (arith, length-append ys (x ∷ [])))
 
-        back : (c t ≡ true) × (count_by c front ≡ left) × Possible ((R left).words n) (front ++ t ∷ []) →
-            IsFirstMark ((R left).marks n) front t
+        back : (c t ≡ true) × (count_by c front ≡ left) × Possible (f.words n) (front ++ t ∷ []) →
+            IsFirstMark (f.marks n) front t
         back (this, count, (more, v, w)) = (
           marked (front ++ t ∷ []) more v w
               (omega (arith, count_append c front (t ∷ []), count_one c t this, count)) (front, t, refl, this),

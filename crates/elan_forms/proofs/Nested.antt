@@ -1,10 +1,10 @@
 -- A form that stands in itself reads exactly, where its body does; and a form whose tokens are counted.
 use Rattle.std.proofs.Common.{◌≡◌, ℕ, zero, suc, ◌+◌, ◌-◌, ◌<◌, ◌≤◌, Bool, true, false, cond, List, [], ◌∷◌, ◌++◌, length, ◌⊎◌, inl, inr, refl, sym, ap, subst, ◌∙◌, arith, length-append}
 use Rattle.elan_forms.specs.Whole.{Answer, done, refused, stuck, over, Gives}
-use Rattle.elan_forms.specs.Form.{Form, ◌>>=◌, after, token, either, loop, loop_words, next_turn, begins_with, turns, level, nested, counted, read_counted}
+use Rattle.elan_forms.specs.Form.{Form, ◌>>=◌, after, token, silent, place, ranged, placed, either, loop, loop_words, next_turn, begins_with, turns, level, nested, counted, read_counted}
 use Rattle.elan_forms.proofs.Steps.{head_is, tail_is, unmarked_none, step, widen}
 use Rattle.elan_forms.proofs.Exact.{no, Exact, Eats, Starts, Begins, Same, good_same, weaker, begins_bind}
-use Rattle.elan_forms.proofs.Lengths.{Shrinks, Keeps}
+use Rattle.elan_forms.proofs.Lengths.{Shrinks, Keeps, silent_keeps}
 
 -- two forms that agree on texts shorter than a bound
 pub record Alike {T V : Type 0} (b : ℕ) (f g : Form T V) : Type 0 where
@@ -102,6 +102,14 @@ bind_alike {T} {A} {B} b f f' g g' keeps hf hg = record {
     read : (n : ℕ) (ts : List T) → length ts < b → (f >>= g).read n ts ≡ (f' >>= g').read n ts
     read n ts l = after_same (f.read n ts) g g' (λ x m r e. (hg x).read m r (omega (arith, keeps n ts x m r e))) ∙ ap
         (λ a. after a g') (hf.read n ts l)
+
+pub placed_alike : {T V S : Type 0} (b : ℕ) (make : ℕ → V → ℕ → S) (f g : Form T V) → Keeps f → Alike b f g →
+    Alike b (placed make f) (placed make g)
+placed_alike b make f g keeps h =
+    let e : Alike b (ranged make f) (ranged make g) =
+    bind_alike b place place _ _ (silent_keeps (λ n. n)) (alike_refl b place)
+    (λ first. bind_alike b f g _ _ keeps h (λ v. alike_refl b (silent (make first v)))) in
+    record { words = e.words; no_words = e.no_words; marks = e.marks; no_marks = e.no_marks; read = e.read }
 
 -- behind a token the bound is one more
 pub token_alike : {T B : Type 0} (b : ℕ) (p : T → Bool) (g g' : T → Form T B) → ((x : T) → Alike b (g x) (g' x)) →

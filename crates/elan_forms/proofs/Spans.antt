@@ -1,6 +1,6 @@
 -- Which tokens a form takes, and a form that may be left out.
 use Rattle.std.proofs.Common.{◌≡◌, ℕ, suc, Bool, true, Some, None, refl, arith}
-use Rattle.elan_forms.specs.Form.{Form, ◌>>=◌, silent, pure, optional, optional, ranged, spanned}
+use Rattle.elan_forms.specs.Form.{Form, ◌>>=◌, silent, pure, optional, ranged, placed}
 use Rattle.elan_forms.proofs.Exact.{silent_out, silent_mark_out, no, Exact, Eats, Begins, eats_exact, silent_exact, good_same, assoc_same, bind_eats, begins_bind, follows_silent, exact_more}
 use Rattle.elan_forms.proofs.Choices.{either_exact}
 use Rattle.elan_forms.proofs.Lengths.{Shrinks, silent_keeps, bind_shrinks}
@@ -12,17 +12,17 @@ silent_eats m q value g eg R k b lm h c =
     (silent_exact (suc m) value R (λ v. g v >>= k) (suc b) (omega arith) (λ v. eg v R k b lm h c)
     (λ v n t ts e. absurd cc))
 
-pub ranged_eats : {T V S : Type 0} (m : ℕ) (q : T → Bool) (make : ℕ → ℕ → S) (f : Form T V) → Eats m q f →
+pub ranged_eats : {T V S : Type 0} (m : ℕ) (q : T → Bool) (make : ℕ → V → ℕ → S) (f : Form T V) → Eats m q f →
     Eats m q (ranged make f)
 ranged_eats m q make f ef =
-    silent_eats m q (λ n. n) _ (λ start. bind_eats m q q f _ ef
-    (λ _. exact_more m no q (silent (make start)) (λ t e. absurd cc) (silent_exact m (make start)))
-    (λ _. follows_silent q (make start)))
+    silent_eats m q (λ n. n) _ (λ first. bind_eats m q q f _ ef
+    (λ v. exact_more m no q (silent (make first v)) (λ t e. absurd cc) (silent_exact m (make first v)))
+    (λ v. follows_silent q (make first v)))
 
-pub spanned_eats : {T V S : Type 0} (m : ℕ) (q : T → Bool) (make : ℕ → ℕ → S) (f : Form T V) → Eats m q f →
-    Eats m q (spanned make f)
-spanned_eats m q make f ef R k b lm h c =
-    good_same (suc b) (ranged make f >>= k) (spanned make f >>= k)
+pub placed_eats : {T V S : Type 0} (m : ℕ) (q : T → Bool) (make : ℕ → V → ℕ → S) (f : Form T V) → Eats m q f →
+    Eats m q (placed make f)
+placed_eats m q make f ef R k b lm h c =
+    good_same (suc b) (ranged make f >>= k) (placed make f >>= k)
     (record {
       words = λ n ts v w. w;
       no_words = λ n ts v w. w;
@@ -40,10 +40,10 @@ begins_silent q value g h = record {
   marks = λ n ts m. (h (value n)).marks n ts (silent_mark_out value g n ts m);
 }
 
-pub begins_spanned : {T V S : Type 0} (q : T → Bool) (make : ℕ → ℕ → S) (f : Form T V) → Begins q f →
-    Begins q (spanned make f)
-begins_spanned q make f h =
-    let b : Begins q (ranged make f) = begins_silent q (λ n. n) _ (λ start. begins_bind q f _ h) in
+pub begins_placed : {T V S : Type 0} (q : T → Bool) (make : ℕ → V → ℕ → S) (f : Form T V) → Begins q f →
+    Begins q (placed make f)
+begins_placed q make f h =
+    let b : Begins q (ranged make f) = begins_silent q (λ n. n) _ (λ first. begins_bind q f _ h) in
     record { words = b.words; marks = b.marks }
 
 -- ---- a form or nothing
@@ -62,6 +62,6 @@ pub silent_shrinks : {T V A : Type 0} (value : ℕ → V) (g : V → Form T A) �
     Shrinks (silent value >>= g)
 silent_shrinks value g h n ts v m r e = h (value n) n ts v m r e
 
-pub spanned_shrinks : {T V S : Type 0} (make : ℕ → ℕ → S) (f : Form T V) → Shrinks f → Shrinks (spanned make f)
-spanned_shrinks make f h n ts v m r e = bind_shrinks f (λ _. silent (make n)) h (λ _. silent_keeps (make n)) n ts v m
-    r e
+pub placed_shrinks : {T V S : Type 0} (make : ℕ → V → ℕ → S) (f : Form T V) → Shrinks f → Shrinks (placed make f)
+placed_shrinks make f h n ts v m r e =
+    bind_shrinks f (λ x. silent (make n x)) h (λ x. silent_keeps (make n x)) n ts v m r e

@@ -1,12 +1,12 @@
 -- Forms with the kinds of tokens with which they begin, and the law of their reading, in one record.
 use Rattle.std.proofs.Common.{◌≡◌, ℕ, zero, suc, ◌+◌, Bool, true, false, cond, ◌||◌, List, [], ◌∷◌, ◌++◌, length, ◌⊎◌, inl, inr, Some, refl, sym, ap, subst, ◌∙◌, arith}
 use Rattle.elan_forms.specs.Whole.{Answer, done, refused, Gives}
-use Rattle.elan_forms.specs.Form.{Form, ◌>>=◌, after, token, silent, pure, either, optional, loop, loop_words, turns, next_turn, begins_with, counted, nested, spanned, whole}
+use Rattle.elan_forms.specs.Form.{Form, ◌>>=◌, after, token, silent, pure, either, optional, loop, loop_words, turns, next_turn, begins_with, counted, nested, placed, spanned, whole}
 use Rattle.elan_forms.proofs.Exact.{no, Clear, Exact, Eats, Starts, Begins, Follows, Apart, eats_exact, token_eats, silent_exact, bind_eats, bind_exact, starts_append, begins_bind, begins_token, follows_begins, exact_more, eats_more, or_left, or_right, Same}
 use Rattle.elan_forms.proofs.Choices.{begins_either, either_eats, either_exact}
 use Rattle.elan_forms.proofs.Lengths.{Shrinks, Keeps, shrinks_keeps, token_shrinks, silent_keeps, bind_shrinks, bind_keeps, either_shrinks, either_keeps}
 use Rattle.elan_forms.proofs.Loops.{turns_enough, loop_exact, loop_keeps}
-use Rattle.elan_forms.proofs.Spans.{begins_spanned, spanned_eats, spanned_shrinks}
+use Rattle.elan_forms.proofs.Spans.{begins_placed, placed_eats, placed_shrinks}
 use Rattle.elan_forms.proofs.Ends.{whole_good}
 use Rattle.elan_forms.proofs.Nested.{begins_counted, counted_eats, counted_shrinks, Grows, Lessens, nested_shrinks, nested_eats, unroll}
 
@@ -362,6 +362,14 @@ module _ {T K : Type 0} {kind : T → K} {m : ℕ} where
       Takes kind m p q (f >>= (λ v. silent (value v)))
   then_value value hf = then_may hf (λ v. may_silent) none_apart within_itself
 
+  pub stands_value : {A B : Type 0} {p q : K → Bool} {f : Form T A} (value : A → ℕ → B) → Stands kind m p q f →
+      Stands kind m p q (f >>= (λ v. silent (value v)))
+  stands_value value hf = stands_then_may hf (λ v. may_silent) none_apart within_itself
+
+  pub may_value : {A B : Type 0} {p q : K → Bool} {f : Form T A} (value : A → ℕ → B) → May kind m p q f →
+      May kind m p q (f >>= (λ v. silent (value v)))
+  may_value value hf = may_more none_in within_itself (may_then_may hf (λ v. may_silent) none_apart within_itself)
+
   -- ---- the one form or the other
 
   pub takes_either : {V : Type 0} {p s q : K → Bool} {f g : Form T V} → ((t : T) → f.first t ≡ p (kind t)) →
@@ -404,13 +412,17 @@ module _ {T K : Type 0} {kind : T → K} {m : ℕ} where
 
   -- ---- which tokens it takes
 
+  pub takes_placed : {V S : Type 0} {p q : K → Bool} {f : Form T V} (make : ℕ → V → ℕ → S) → Takes kind m p q f →
+      Takes kind m p q (placed make f)
+  takes_placed {V} {S} {p} {q} {f} make h = record {
+    begins = begins_placed (on kind p) make f h.begins;
+    shrinks = placed_shrinks make f h.shrinks;
+    eats = placed_eats m (on kind q) make f h.eats;
+  }
+
   pub takes_spanned : {V S : Type 0} {p q : K → Bool} {f : Form T V} (make : ℕ → ℕ → S) → Takes kind m p q f →
       Takes kind m p q (spanned make f)
-  takes_spanned {V} {S} {p} {q} {f} make h = record {
-    begins = begins_spanned (on kind p) make f h.begins;
-    shrinks = spanned_shrinks make f h.shrinks;
-    eats = spanned_eats m (on kind q) make f h.eats;
-  }
+  takes_spanned make h = takes_placed (λ first v past. make first past) h
 
   -- ---- any number of turns
 

@@ -160,18 +160,26 @@ finish v = record {
   read = read_end v;
 }
 
--- the form, whose value is made of the number of its first token and of the number after its last one
-abbrev pub ranged : {T V S : Type 0} → (ℕ → ℕ → S) → Form T V → Form T S
-ranged make f = place >>= (λ start. f >>= (λ _. silent (λ past. make start past)))
+-- the form, whose value is made of the number of its first token, its own value and the number after its last token
+abbrev pub ranged : {T V S : Type 0} → (ℕ → V → ℕ → S) → Form T V → Form T S
+ranged make f = place >>= (λ first. f >>= (λ v. silent (λ past. make first v past)))
 
 -- the same form, which begins as the form in it does
-abbrev pub spanned : {T V S : Type 0} → (ℕ → ℕ → S) → Form T V → Form T S
-spanned make f = record {
+abbrev pub placed : {T V S : Type 0} → (ℕ → V → ℕ → S) → Form T V → Form T S
+placed make f = record {
   words = (ranged make f).words;
   marks = (ranged make f).marks;
   first = f.first;
   read = (ranged make f).read;
 }
+
+-- the same, of the two numbers alone
+abbrev pub spanned : {T V S : Type 0} → (ℕ → ℕ → S) → Form T V → Form T S
+spanned make = placed (λ first v past. make first past)
+
+-- the same, of the number of the first token and the form's own value
+abbrev pub numbered : {T V S : Type 0} → (ℕ → V → S) → Form T V → Form T S
+numbered make = placed (λ first v past. make first v)
 
 -- the form, and then the end of the text
 abbrev pub whole : {T V : Type 0} → Form T V → Form T V

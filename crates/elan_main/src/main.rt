@@ -1,6 +1,7 @@
 //! The program `elan`: words and standard input in, a report on standard output, and an exit status.
 #![tactic(auto)]
 
+use elan_loaders::{FolderLoader, Loader};
 use elan_run::{Status, run_plain};
 use elan_text::{StdSink, StdSource};
 use std::env::Env;
@@ -29,13 +30,20 @@ fn words<R: Env + AllocGlobal>(rt: &R) -> io::Result<Vec<String>> {
     Ok(words)
 }
 
+/// A run with these words, whose modules may be files of the folder that it runs in.
+fn ran(rt: HostRuntime, words: &[String]) -> io::Result<Status> {
+    let alloc = rt.alloc();
+    let folder = String::from_str(alloc, ".")?;
+    let mut loaders: Vec<Box<dyn Loader>> = Vec::new(alloc);
+    loaders.push(Box::new(alloc, FolderLoader::new(rt, folder))?)?;
+    let mut source = StdSource::new(rt.stdin());
+    let mut sink = StdSink::new(rt.stdout());
+    Ok(run_plain(alloc, words, &mut source, &mut loaders, &mut sink))
+}
+
 fn main(rt: HostRuntime) -> ExitCode {
     let status = match words(&rt) {
-        Ok(words) => {
-            let mut source = StdSource::new(rt.stdin());
-            let mut sink = StdSink::new(rt.stdout());
-            run_plain(rt.alloc(), words.as_slice(), &mut source, &mut sink)
-        }
+        Ok(words) => ran(rt, words.as_slice()).unwrap_or(Status::NoMemory),
         Err(_) => Status::NoMemory,
     };
     ExitCode::from(status.exit())

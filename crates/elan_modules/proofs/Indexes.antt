@@ -160,9 +160,9 @@ front_is (a ∷ xs) [] x y e = absurd (not_none-list xs x cc)
 front_is (a ∷ xs) (b ∷ ys) x y e = let head : a ≡ b = cc in let tail : xs ++ x ∷ [] ≡ ys ++ y ∷ [] = cc in
     ap₂ (λ h t. h ∷ t) head (front_is xs ys x y tail)
 
--- without the last instance they are found as before
-pub popped : (keys : List Name) (done old less : List Instance) (i : Instance) (last : Option Instance) → IsIndexed keys done
-    → old ≡ done ++ i ∷ [] → MatchOption last ((old ≡ []) × (less ≡ [])) (λ j. old ≡ less ++ j ∷ []) → IsIndexed keys less
-popped keys done old less i (Some j) indexed is e = rw (front_is less done j i (sym e ∙ is)) indexed
-popped keys [] old less i None indexed is e = absurd cc
-popped keys (x ∷ done) old less i None indexed is e = absurd cc
+-- what held before the last instance holds without it
+pub popped : (P : List Instance → Type 0) (done old less : List Instance) (i : Instance) (last : Option Instance) → P done
+    → old ≡ done ++ i ∷ [] → MatchOption last ((old ≡ []) × (less ≡ [])) (λ j. old ≡ less ++ j ∷ []) → P less
+popped P done old less i (Some j) holds is e = rw (front_is less done j i (sym e ∙ is)) holds
+popped P [] old less i None holds is e = absurd cc
+popped P (x ∷ done) old less i None holds is e = absurd cc

@@ -2,10 +2,13 @@ pub mod BeginLemmas
 pub mod Computed
 pub mod EntryLemmas
 pub mod FindLemmas
+pub mod FlatLemmas
 pub mod FlattenLemmas
 pub mod LoadLemmas
+pub mod NamedLemmas
 pub mod OpenedLemmas
 pub mod ReadingLemmas
+pub mod ReplacingLemmas
 pub mod Rows
 pub mod SortLemmas
 pub mod VisitLemmas

@@ -1,5 +1,7 @@
 pub mod Sorts
+pub mod Replacing
 pub mod Modules
+pub mod Fitting
 pub mod Walking
 pub mod Finds
 pub mod Readings

@@ -253,10 +253,13 @@ walked library stream lpl =
 abbrev pub flattened : Library → LoadedText → LplOutline → Span → Result Flat Halted
 flattened library stream lpl query = next (walked library stream lpl) (λ walk. Ok (flat_of lpl query walk))
 
--- the stream as the first text
+-- the stream as the first text, with its modules
+abbrev pub stream_with : List ℕ → List Token → List ModuleOutline → LoadedText
+stream_with bytes tokens modules = record { «module» = None; bytes = bytes; tokens = tokens; modules = modules }
+
+-- the same of a stream with its outline
 abbrev pub stream_of : List ℕ → List Token → Outline → LoadedText
-stream_of bytes tokens outline =
-    record { «module» = None; bytes = bytes; tokens = tokens; modules = outline.modules }
+stream_of bytes tokens outline = stream_with bytes tokens outline.modules
 
 -- the flat program of a stream with its outline, or its first refusal
 abbrev pub flat_program : Library → List ℕ → List Token → Outline → Result Flat Halted

@@ -1,12 +1,14 @@
 //! Instances that are begun.
 
 ghost use Rattle.std.specs.Prelude.{◌≡◌, ◌≤◌, ◌+◌, true, false, length, map, Some, IfOk};
-ghost use Rattle.elan_modules.specs.declared.flat.Origin.TheVariants.{Text};
+ghost use Rattle.elan_modules.specs.declared.flat.Origin.TheVariants.{Builtin, Text};
 ghost use Rattle.elan_modules.specs.Modules as modules;
 ghost use Rattle.elan_modules.specs.Visits as spec;
 ghost use Rattle.elan_modules.specs.Finds.{Stands};
+ghost use Rattle.elan_modules.specs.Fitting.{IsOriginOf};
+ghost use Rattle.elan_modules.specs.Walking.{Keeps};
 ghost use Rattle.elan_modules.specs.Walks.{Walks, Stays, Is, shelf};
-ghost use Rattle.elan_modules.specs.Loads.{HasOne, walk_with, begun_with, itself};
+ghost use Rattle.elan_modules.specs.Loads.{HasOne, IsOwn, walk_with, begun_with, itself};
 
 use crate::find::find;
 use crate::flat::{FlattenRefusal, LoadedText, Origin};
@@ -17,6 +19,7 @@ use crate::modules::{
 };
 use crate::opening::is_name;
 use crate::progress::Walk;
+use crate::replacing::Replacements;
 use crate::walk::{Opening, Reference, Spot, Standard};
 use elan_loaders::Loader;
 use elan_syntax::ModuleOutline;
@@ -40,10 +43,11 @@ fn text_imports(
     }
     let spans = sort_spans(alloc, text, outline.sections.as_slice())?;
     let (parameters, args) = (parameters.as_slice(), reference.args.as_slice());
-    match first_long(text, parameters, args, spans.as_slice()) {
+    let replacements = Replacements::new(alloc, parameters, args)?;
+    match first_long(text, &replacements, spans.as_slice()) {
         Some(at) => Err(long_at(alloc, text, at)),
         None => {
-            let found = imports_of(alloc, text, parameters, args, outline.sections.as_slice())?;
+            let found = imports_of(alloc, text, &replacements, outline.sections.as_slice())?;
             Ok(found)
         }
     }
@@ -95,8 +99,9 @@ fn begin_standard(
     reference: &Reference,
     standard: Standard,
 ) -> Result<Opening, FlattenRefusal>
-    ensures { Stays (begun_with walk.now) result
+    ensures stays { Stays (begun_with walk.now) result
         (spec.begun_standard walk.now reference.now standard) }
+    ensures origin { IfOk result (λ opening. opening.origin ≡ Builtin) }
 {
     let imports = built_imports(alloc, reference, standard)?;
     Ok(Opening {
@@ -114,8 +119,9 @@ fn begin_found(
     spot: Spot,
 ) -> Result<Opening, FlattenRefusal>
     requires { (found : modules.Found) × Stands walk.now.texts spot found }
-    ensures { (found : modules.Found) → Stands walk.now.texts spot found
+    ensures stays { (found : modules.Found) → Stands walk.now.texts spot found
         → Stays (begun_with walk.now) result (spec.begun_text reference.now (walk.now, found)) }
+    ensures origin { IfOk result (λ opening. opening.origin ≡ Text spot.text spot.«module») }
 {
     let Some(text) = walk.texts().get(spot.text) else {
         unreachable!()
@@ -136,11 +142,14 @@ fn begin_loaded<L: Loader>(
     reference: &Reference,
 ) -> Result<Opening, FlattenRefusal>
     requires { modules.is_name reference.now.name.bytes ≡ true }
-    ensures { Walks (λ library. spec.next
+    ensures walks { Walks (λ library. spec.next
         (spec.fetched walk.old reference.now (library reference.now.name.bytes))
         (spec.begun_text reference.now))
         (shelf L.library L.misses L.failures loaders.old) (shelf L.library L.misses L.failures loaders.new)
         (begun_with walk.new) result }
+    ensures kept { Keeps walk.old.texts walk.new.texts }
+    ensures origin { IfOk result (λ opening.
+        IsOriginOf walk.new.texts reference.now.name.bytes opening.origin) }
 {
     let text = load(alloc, walk, loaders, reference)?;
     let opening = begin_new(alloc, walk, reference, &text)?;
@@ -157,8 +166,9 @@ fn begin_new(
     text: &LoadedText,
 ) -> Result<Opening, FlattenRefusal>
     requires { HasOne text.now.modules }
-    ensures { Stays (begun_with (walk_with walk.now text.now).0) result
+    ensures stays { Stays (begun_with (walk_with walk.now text.now).0) result
         (spec.begun_text reference.now (walk_with walk.now text.now)) }
+    ensures origin { IfOk result (λ opening. opening.origin ≡ Text (length walk.now.texts) 0) }
 {
     let [outline, ..] = text.modules.as_slice() else {
         unreachable!()
@@ -178,10 +188,13 @@ fn begin_text<L: Loader>(
     loaders: &mut [L],
     reference: &Reference,
 ) -> Result<Opening, FlattenRefusal>
-    ensures { Walks (λ library. spec.next (spec.located library walk.old reference.now)
+    ensures walks { Walks (λ library. spec.next (spec.located library walk.old reference.now)
         (spec.begun_text reference.now))
         (shelf L.library L.misses L.failures loaders.old) (shelf L.library L.misses L.failures loaders.new)
         (begun_with walk.new) result }
+    ensures kept { Keeps walk.old.texts walk.new.texts }
+    ensures origin { IfOk result (λ opening.
+        IsOriginOf walk.new.texts reference.now.name.bytes opening.origin) }
 {
     match find(walk.texts(), reference.name.as_bytes()) {
         Some(spot) => begin_found(alloc, walk, reference, spot),
@@ -202,9 +215,12 @@ pub(crate) fn begin<L: Loader>(
     loaders: &mut [L],
     reference: &Reference,
 ) -> Result<Opening, FlattenRefusal>
-    ensures { Walks (λ library. spec.begun library walk.old reference.now)
+    ensures walks { Walks (λ library. spec.begun library walk.old reference.now)
         (shelf L.library L.misses L.failures loaders.old) (shelf L.library L.misses L.failures loaders.new)
         (begun_with walk.new) result }
+    ensures kept { Keeps walk.old.texts walk.new.texts }
+    ensures origin { IfOk result (λ opening.
+        IsOriginOf walk.new.texts reference.now.name.bytes opening.origin) }
 {
     match standard_of(reference.name.as_bytes()) {
         Some(standard) => begin_standard(alloc, walk, reference, standard),

@@ -1,26 +1,29 @@
 //! A program flattened to the list of its module instances.
 
-ghost use Rattle.std.specs.Prelude.{◌≡◌, ◌≤◌, ◌<◌, ◌+◌, ◌++◌, [], false, true, length, map, IfOk, Some, None};
+ghost use Rattle.std.specs.Prelude.{◌≡◌, ◌≤◌, ◌<◌, ◌+◌, ◌++◌, [], false, true, length, map, slice_get, IfOk, Some, None};
 ghost use Rattle.std.specs.List.{list_any};
 ghost use Rattle.elan_modules.specs.Sorts as sorts;
 ghost use Rattle.elan_modules.specs.Modules as modules;
 ghost use Rattle.elan_modules.specs.Visits as spec;
+ghost use Rattle.elan_lexer.specs.Text.{Fits};
 ghost use Rattle.elan_loaders.specs.Libraries.{first_told, SomeRose, EachRose, NoneFell};
+ghost use Rattle.elan_modules.specs.declared.flat.LoadedText.{LoadedText as TextValue};
+ghost use Rattle.elan_modules.specs.Fitting.{IsFitting, IsFlat};
 ghost use Rattle.elan_modules.specs.Flattens.{AllTold, Gives};
 ghost use Rattle.elan_modules.specs.Walks.{Walks, IsSound, Comes, Lacks, shelf, is_fault, is_absent};
 ghost use Rattle.elan_modules.specs.Loads.{itself};
 
-use crate::copies::{copy_lpl, copy_modules};
 use crate::flat::{Flat, FlattenRefusal, LoadedText};
 use crate::modules::{add_references, name_of, standard_of};
 use crate::progress::Walk;
+use crate::replacing::Replacements;
 use crate::sorts::place_at;
 use crate::visit::visit_all;
 use crate::walk::Reference;
 use elan_lexer::Token;
 use elan_loaders::Loader;
 use elan_numbers::Numbers;
-use elan_syntax::Outline;
+use elan_syntax::{LplOutline, ModuleOutline, Outline, Span};
 use elan_text::{Code, NoMemory, Place, Refusal};
 use sqlite_items::Items;
 use std::alloc::Global;
@@ -34,21 +37,23 @@ pub fn flatten(
     alloc: Global,
     bytes: &[u8],
     tokens: &[Token],
-    outline: &Outline,
+    outline: Outline,
     loaders: &mut Vec<Box<dyn Loader>>,
 ) -> Result<Flat, FlattenRefusal>
     // What is answered where each loader tells its library, where the stream needs no loaders, and for any libraries.
     ensures told { AllTold (map (λ l. library l) loaders.old.items) → Gives result
-        (spec.flat_program (first_told (map (λ l. library l) loaders.old.items)) bytes.now tokens.now outline.now) }
-    ensures alone { spec.needs_loaders bytes.now tokens.now outline.now ≡ false
-        → Gives result (spec.flat_program spec.nobody bytes.now tokens.now outline.now) }
+        (spec.flat_program (first_told (map (λ l. library l) loaders.old.items)) bytes.now tokens.now outline) }
+    ensures alone { spec.needs_loaders bytes.now tokens.now outline ≡ false
+        → Gives result (spec.flat_program spec.nobody bytes.now tokens.now outline) }
     ensures sound { (said : spec.Library) → IsSound said (map (λ l. library l) loaders.old.items)
-        → Comes itself result (spec.flat_program said bytes.now tokens.now outline.now) }
+        → Comes itself result (spec.flat_program said bytes.now tokens.now outline) }
+    // What stands in the program, where the tokens are those of the stream.
+    ensures flat { IfOk result (λ f. Fits bytes.now tokens.now → IsFlat f) }
     // Why a loader's fault and a missing module are answered.
     ensures fault { is_fault result ≡ true
         → SomeRose (map (λ l. failures l) loaders.old.items) (map (λ l. failures l) loaders.new.items) }
     ensures needed { is_fault result ≡ true
-        → spec.needs_loaders bytes.now tokens.now outline.now ≡ true }
+        → spec.needs_loaders bytes.now tokens.now outline ≡ true }
     ensures absent { is_absent result ≡ true
         → EachRose (map (λ l. misses l) loaders.old.items) (map (λ l. misses l) loaders.new.items) }
     ensures lacking { is_absent result ≡ true
@@ -60,7 +65,7 @@ pub fn flatten(
         (map (λ l. misses l) loaders.new.items) }
     ensures failures { NoneFell (map (λ l. failures l) loaders.old.items)
         (map (λ l. failures l) loaders.new.items) }
-    ensures untouched { spec.needs_loaders bytes.now tokens.now outline.now ≡ false
+    ensures untouched { spec.needs_loaders bytes.now tokens.now outline ≡ false
         → (map (λ l. misses l) loaders.new.items ≡ map (λ l. misses l) loaders.old.items)
         × (map (λ l. failures l) loaders.new.items ≡ map (λ l. failures l) loaders.old.items) }
 {
@@ -72,13 +77,12 @@ fn stream_of(
     alloc: Global,
     bytes: &[u8],
     tokens: &[Token],
-    outline: &Outline,
+    modules: Items<ModuleOutline>,
 ) -> Result<LoadedText, NoMemory>
-    ensures { IfOk result (λ text. text ≡ spec.stream_of bytes.now tokens.now outline.now) }
+    ensures { IfOk result (λ text. text ≡ spec.stream_with bytes.now tokens.now modules) }
 {
     let bytes = Items::from_slice(alloc, bytes)?;
     let tokens = Items::from_slice(alloc, tokens)?;
-    let modules = copy_modules(alloc, outline.modules.as_slice())?;
     Ok(LoadedText {
         module: None,
         bytes,
@@ -113,32 +117,30 @@ fn named_twice(alloc: Global, stream: &LoadedText) -> Result<Option<Place>, NoMe
 }
 
 /// The references of the `LPL` import.
-fn asked(
-    alloc: Global,
-    stream: &LoadedText,
-    outline: &Outline,
-) -> Result<Items<Reference>, NoMemory>
+fn asked(alloc: Global, stream: &LoadedText, lpl: &LplOutline) -> Result<Items<Reference>, NoMemory>
     ensures { IfOk result (λ found. found
-        ≡ modules.references_of stream.now [] [] outline.now.lpl.imports) }
+        ≡ modules.references_of stream.now [] [] lpl.now.imports) }
 {
     let mut found = Items::new(alloc);
-    let imports = outline.lpl.imports.as_slice();
-    add_references(alloc, &mut found, stream, &[], &[], imports)?;
+    let imports = lpl.imports.as_slice();
+    let replacements = Replacements::new(alloc, &[], &[])?;
+    add_references(alloc, &mut found, stream, &replacements, imports)?;
     Ok(found)
 }
 
 /// The flat program of a walk that has come to its end.
-fn flat_of(alloc: Global, outline: &Outline, walk: Walk) -> Result<Flat, NoMemory>
-    ensures { IfOk result (λ flat. flat ≡ spec.flat_of outline.now.lpl outline.now.query walk) }
+fn flat_of(lpl: LplOutline, query: Span, walk: Walk) -> Flat
+    ensures value { result ≡ spec.flat_of lpl query walk }
+    ensures flat { (stream : TextValue) → slice_get walk.texts 0 ≡ Some stream
+        → IsFitting stream → IsFlat result }
 {
-    let lpl = copy_lpl(alloc, &outline.lpl)?;
     let (texts, done) = walk.into_parts();
-    Ok(Flat {
+    Flat {
         texts,
         instances: done,
         lpl,
-        query: outline.query,
-    })
+        query,
+    }
 }
 
 /// The walk of a stream, from the references of the `LPL` import.
@@ -146,12 +148,13 @@ fn flat_of(alloc: Global, outline: &Outline, walk: Walk) -> Result<Flat, NoMemor
 fn walked<L: Loader>(
     alloc: Global,
     stream: LoadedText,
-    outline: &Outline,
+    lpl: &LplOutline,
     loaders: &mut [L],
 ) -> Result<Walk, FlattenRefusal>
-    ensures { Walks (λ library. spec.walked library stream outline.now.lpl)
+    ensures walks { Walks (λ library. spec.walked library stream lpl.now)
         (shelf L.library L.misses L.failures loaders.old) (shelf L.library L.misses L.failures loaders.new)
         itself result }
+    ensures first { IfOk result (λ walk. slice_get walk.texts 0 ≡ Some stream) }
 {
     let twice = named_twice(alloc, &stream)?;
     if let Some(at) = twice {
@@ -161,7 +164,7 @@ fn walked<L: Loader>(
             module: None,
         }));
     }
-    let imports = asked(alloc, &stream, outline)?;
+    let imports = asked(alloc, &stream, lpl)?;
     let mut walk = Walk::start(alloc, stream)?;
     match visit_all(alloc, &mut walk, loaders, &[], imports.as_slice()) {
         Ok(()) => Ok(walk),
@@ -175,16 +178,22 @@ fn flatten_with<L: Loader>(
     alloc: Global,
     bytes: &[u8],
     tokens: &[Token],
-    outline: &Outline,
+    outline: Outline,
     loaders: &mut [L],
 ) -> Result<Flat, FlattenRefusal>
-    ensures { Walks (λ library. spec.flat_program library bytes.now tokens.now outline.now)
+    ensures walks { Walks (λ library. spec.flat_program library bytes.now tokens.now outline)
         (shelf L.library L.misses L.failures loaders.old) (shelf L.library L.misses L.failures loaders.new)
         itself result }
+    ensures flat { IfOk result (λ f. Fits bytes.now tokens.now → IsFlat f) }
 {
-    let stream = stream_of(alloc, bytes, tokens, outline)?;
-    match walked(alloc, stream, outline, loaders) {
-        Ok(walk) => Ok(flat_of(alloc, outline, walk)?),
+    let Outline {
+        modules,
+        lpl,
+        query,
+    } = outline;
+    let stream = stream_of(alloc, bytes, tokens, modules)?;
+    match walked(alloc, stream, &lpl, loaders) {
+        Ok(walk) => Ok(flat_of(lpl, query, walk)),
         Err(why) => Err(why),
     }
 }

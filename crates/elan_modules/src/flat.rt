@@ -1,7 +1,8 @@
 //! A program flattened to the list of its module instances.
 
-ghost use Rattle.std.specs.Prelude.{◌≡◌};
+ghost use Rattle.std.specs.Prelude.{◌≡◌, MatchOption, None, Some};
 ghost use Rattle.elan_modules.specs.declared.flat.FlattenRefusal.TheVariants.{NoMemory as OutOfMemory};
+ghost use Rattle.elan_modules.specs.Fitting.{module_of};
 
 use elan_lexer::Token;
 use elan_syntax::{LplOutline, ModuleOutline, Span};
@@ -46,6 +47,21 @@ pub struct Flat {
     pub lpl: LplOutline,
     /// The tokens of the query, in the stream.
     pub query: Span,
+}
+
+impl Flat {
+    /// The text and the module in which an instance of this program stands, or None where its module is built in.
+    pub fn module_of(&self, instance: &Instance) -> Option<(&LoadedText, &ModuleOutline)>
+        ensures { MatchOption result (module_of self.now instance.now ≡ None)
+            (λ found. module_of self.now instance.now ≡ Some (found.0.now, found.1.now)) }
+    {
+        let Origin::Text { text, module } = instance.origin else {
+            return None;
+        };
+        let text = self.texts.get(text as usize)?;
+        let outline = text.modules.get(module as usize)?;
+        Some((text, outline))
+    }
 }
 
 /// Why a program was not flattened.

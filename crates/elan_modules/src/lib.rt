@@ -2,7 +2,6 @@
 #![tactic(auto)]
 
 mod begin;
-mod copies;
 mod entry;
 mod find;
 mod flat;
@@ -11,6 +10,7 @@ mod load;
 mod modules;
 mod opening;
 mod progress;
+mod replacing;
 mod sorts;
 mod visit;
 mod walk;
@@ -18,4 +18,5 @@ mod walk;
 pub use entry::flatten;
 pub use flat::{Flat, FlattenRefusal, Instance, LoadedText, Origin};
 pub use modules::{copy_name, copy_owner, parameters_of};
-pub use sorts::{argument_spans, part, place_at, word, word_at, written};
+pub use replacing::Replacements;
+pub use sorts::{argument_spans, part, place_at, word, word_at, written, written_by};

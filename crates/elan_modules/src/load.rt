@@ -4,7 +4,7 @@ ghost use Rattle.std.specs.Prelude.{◌≡◌, ◌≤◌, ◌+◌, true, false, 
 ghost use Rattle.elan_modules.specs.Modules as modules;
 ghost use Rattle.elan_modules.specs.Visits as spec;
 ghost use Rattle.elan_modules.specs.Walks.{Walks, Stays, Is, shelf};
-ghost use Rattle.elan_modules.specs.Loads.{HasOne, walk_with};
+ghost use Rattle.elan_modules.specs.Loads.{HasOne, IsOwn, walk_with};
 
 use crate::flat::{FlattenRefusal, LoadedText};
 use crate::modules::{copy_name, copy_owner};
@@ -31,6 +31,7 @@ pub(crate) fn load<L: Loader>(
         (shelf L.library L.misses L.failures loaders.old) (shelf L.library L.misses L.failures loaders.new)
         (walk_with walk.now) result }
     ensures one { IfOk result (λ text. HasOne text.modules) }
+    ensures own { IfOk result (λ text. IsOwn reference.now.name text) }
 {
     let Ok(name) = str::from_utf8(reference.name.as_bytes()) else {
         unreachable!()
@@ -54,6 +55,7 @@ fn admit(
     requires { modules.is_name name.now.bytes ≡ true }
     ensures stays { Stays (walk_with walk.now) result (spec.loaded walk.now name.now bytes.items) }
     ensures one { IfOk result (λ text. HasOne text.modules) }
+    ensures own { IfOk result (λ text. IsOwn name.now text) }
 {
     if is_past(walk.texts(), bytes.len()) {
         return Err(too_long(alloc, name));

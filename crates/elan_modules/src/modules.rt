@@ -6,7 +6,8 @@ ghost use Rattle.elan_modules.specs.Sorts as sorts;
 ghost use Rattle.elan_modules.specs.Modules as spec;
 
 use crate::flat::LoadedText;
-use crate::sorts::{argument_spans, is_long, place_at, word_at, written};
+use crate::replacing::Replacements;
+use crate::sorts::{argument_spans, is_long, place_at, word_at, written_by};
 use crate::walk::{Reference, Standard};
 use elan_syntax::{ModuleOutline, OpDecl, Section, Span, Vars};
 use elan_text::{Name, NoMemory, Place};
@@ -201,15 +202,15 @@ fn add_variables(found: &mut Items<Span>, sort: Span, vars: &[Vars]) -> Result<(
 #[tactic(auto, unfolding(crate::specs::Modules::first_long))]
 pub(crate) fn first_long(
     text: &LoadedText,
-    parameters: &[Name],
-    sorts: &[Name],
+    replacements: &Replacements<'_>,
     spans: &[Span],
 ) -> Option<Place>
-    ensures { result ≡ spec.first_long text.now parameters.now sorts.now spans.now }
+    ensures { result ≡ spec.first_long text.now
+        replacements.now.parameters replacements.now.sorts spans.now }
 {
     let mut left = spans;
     'spans: while let [span, rest @ ..] = left {
-        if is_long(text, parameters, sorts, *span) {
+        if is_long(text, replacements, *span) {
             return Some(place_at(text, span.first));
         }
         left = rest;
@@ -221,14 +222,14 @@ pub(crate) fn first_long(
 pub(crate) fn reference_of(
     alloc: Global,
     text: &LoadedText,
-    parameters: &[Name],
-    sorts: &[Name],
+    replacements: &Replacements<'_>,
     span: Span,
 ) -> Result<Reference, NoMemory>
-    ensures { IfOk result (λ r. r ≡ spec.reference_of text.now parameters.now sorts.now span) }
+    ensures { IfOk result (λ r. r ≡ spec.reference_of text.now
+        replacements.now.parameters replacements.now.sorts span) }
 {
     let spans = argument_spans(alloc, text, span)?;
-    let args = written_all(alloc, text, parameters, sorts, spans.as_slice())?;
+    let args = written_all(alloc, text, replacements, spans.as_slice())?;
     let name = Name::new(alloc, word_at(text, span.first))?;
     let module = copy_owner(alloc, &text.module)?;
     Ok(Reference {
@@ -243,17 +244,16 @@ pub(crate) fn reference_of(
 fn written_all(
     alloc: Global,
     text: &LoadedText,
-    parameters: &[Name],
-    sorts: &[Name],
+    replacements: &Replacements<'_>,
     spans: &[Span],
 ) -> Result<Items<Name>, NoMemory>
     ensures { IfOk result (λ names. names
-        ≡ spec.written_all text.now parameters.now sorts.now spans.now) }
+        ≡ spec.written_all text.now replacements.now.parameters replacements.now.sorts spans.now) }
 {
     let mut found = Items::new(alloc);
     let mut left = spans;
     'spans: while let [span, rest @ ..] = left {
-        found.push(written(alloc, text, parameters, sorts, *span)?)?;
+        found.push(written_by(alloc, text, replacements, *span)?)?;
         left = rest;
     }
     Ok(found)
@@ -263,18 +263,17 @@ fn written_all(
 pub(crate) fn imports_of(
     alloc: Global,
     text: &LoadedText,
-    parameters: &[Name],
-    sorts: &[Name],
+    replacements: &Replacements<'_>,
     sections: &[Section],
 ) -> Result<Items<Reference>, NoMemory>
     ensures { IfOk result (λ found. found
-        ≡ spec.imports_of text.now parameters.now sorts.now sections.now) }
+        ≡ spec.imports_of text.now replacements.now.parameters replacements.now.sorts sections.now) }
 {
     let mut found = Items::new(alloc);
     let mut left = sections;
     'sections: while let [section, rest @ ..] = left {
         if let Section::Imports(spans) = section {
-            add_references(alloc, &mut found, text, parameters, sorts, spans.as_slice())?;
+            add_references(alloc, &mut found, text, replacements, spans.as_slice())?;
         }
         left = rest;
     }
@@ -286,16 +285,15 @@ pub(crate) fn add_references(
     alloc: Global,
     found: &mut Items<Reference>,
     text: &LoadedText,
-    parameters: &[Name],
-    sorts: &[Name],
+    replacements: &Replacements<'_>,
     spans: &[Span],
 ) -> Result<(), NoMemory>
-    ensures { OnOk result (found.new
-        ≡ found.old ++ spec.references_of text.now parameters.now sorts.now spans.now) }
+    ensures { OnOk result (found.new ≡ found.old ++ spec.references_of text.now
+        replacements.now.parameters replacements.now.sorts spans.now) }
 {
     let mut left = spans;
     'spans: while let [span, rest @ ..] = left {
-        found.push(reference_of(alloc, text, parameters, sorts, *span)?)?;
+        found.push(reference_of(alloc, text, replacements, *span)?)?;
         left = rest;
     }
     Ok(())

@@ -6,6 +6,7 @@ ghost use Rattle.elan_phrases.specs.Symbols.{is_unreserved as IsUnreserved};
 ghost use Rattle.elan_modules.specs.declared.flat.FlattenRefusal.TheVariants.{NoMemory as OutOfMemory};
 ghost use Rattle.elan_modules.specs.Modules as spec;
 ghost use Rattle.elan_modules.specs.Openings.{InText, Opens};
+ghost use Rattle.elan_modules.specs.Loads.{IsOwn};
 
 use crate::flat::{FlattenRefusal, LoadedText};
 use crate::modules::copy_name;
@@ -21,7 +22,8 @@ use std::alloc::Global;
 pub(crate) fn open(alloc: Global, name: &Name, bytes: Vec<u8>) -> Result<LoadedText, FlattenRefusal>
     requires fits { length bytes.items ≤ 4194304 }
     requires unreserved { IsUnreserved name.now.bytes ≡ true }
-    ensures { Opens (spec.opened name.now bytes.items) result }
+    ensures opens { Opens (spec.opened name.now bytes.items) result }
+    ensures own { IfOk result (λ text. IsOwn name.now text) }
 {
     let found = match tokens(alloc, bytes.as_slice()) {
         Ok(found) => found,

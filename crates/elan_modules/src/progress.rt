@@ -1,7 +1,8 @@
 //! How far a walk through the imports came.
 
-ghost use Rattle.std.specs.Prelude.{◌≡◌, ◌++◌, ◌∷◌, [], length, IfOk, OnOk};
-ghost use Rattle.std.specs.List.{list_any};
+ghost use Rattle.std.specs.Prelude.{◌≡◌, ◌++◌, ◌∷◌, [], drop, length, IfOk, OnOk};
+ghost use Rattle.std.specs.List.{All, list_any};
+ghost use Rattle.elan_modules.specs.Fitting.{IsFitting, HasOrigin, IsOriginOf};
 ghost use Rattle.elan_modules.specs.Visits as spec;
 ghost use Rattle.elan_modules.specs.Walking as walking;
 
@@ -26,13 +27,17 @@ pub(crate) struct Walk {
 }
 
 impl Model for Walk {
-    ghost use Rattle.elan_modules.specs.Walking.{Walk as WalkValue, IsIndexed};
+    ghost use Rattle.elan_modules.specs.Walking.{Walk as WalkValue, IsWalk};
+    ghost use Rattle.elan_phrases.specs.contracts.plan.Plan as plan;
+    ghost use Rattle.std.specs.Coded.{codes};
 
     ghost Value = { WalkValue };
 
+    ghost coded = { Prim.hlevel (codes, plan.the_row.coded) };
+
     ghost view = { λ w. record { texts = w.texts; done = w.done } };
 
-    ghost invariant = { λ w. IsIndexed w.keys w.done };
+    ghost invariant = { λ w. IsWalk w.keys w.texts w.done };
 }
 
 impl Walk {
@@ -65,9 +70,12 @@ impl Walk {
 
     /// Adds a text that was loaded.
     pub(crate) fn add_text(&mut self, text: LoadedText) -> Result<(), NoMemory>
-        ensures { OnOk result (self.new ≡ walking.with_text self.old text) }
+        requires { IsFitting text }
+        ensures ok { OnOk result (self.new ≡ walking.with_text self.old text) }
+        ensures kept { walking.Keeps self.old.texts self.new.texts }
     {
-        self.texts.push(text)
+        self.texts.push(text)?;
+        Ok(())
     }
 
     /// Whether the instance of a reference is finished.
@@ -86,7 +94,9 @@ impl Walk {
         reference: &Reference,
         origin: Origin,
     ) -> Result<(), NoMemory>
-        ensures { OnOk result (self.new ≡ spec.finished reference.now origin self.old) }
+        requires { IsOriginOf self.old.texts reference.now.name.bytes origin }
+        ensures ok { OnOk result (self.new ≡ spec.finished reference.now origin self.old) }
+        ensures texts { self.new.texts ≡ self.old.texts }
     {
         let key = key_of(alloc, &reference.name, reference.args.as_slice())?;
         let instance = instance_of(alloc, reference, origin)?;
@@ -102,7 +112,9 @@ impl Walk {
 
     /// The texts and the instances.
     pub(crate) fn into_parts(self) -> (Items<LoadedText>, Items<Instance>)
-        ensures { result ≡ (self.texts, self.done) }
+        ensures parts { result ≡ (self.texts, self.done) }
+        ensures loaded { All IsFitting (drop 1 self.texts) }
+        ensures origins { All (HasOrigin self.texts) self.done }
     {
         let Walk { texts, done, .. } = self;
         (texts, done)

@@ -5,6 +5,7 @@ ghost use Rattle.elan_lexer.specs.Text.{token_text};
 ghost use Rattle.elan_modules.specs.Sorts as spec;
 
 use crate::flat::LoadedText;
+use crate::replacing::Replacements;
 use elan_lexer::Token;
 use elan_syntax::Span;
 use elan_text::{Name, NoMemory, Place};
@@ -60,41 +61,21 @@ fn opens(bytes: &[u8], tokens: &[Token]) -> bool
     }
 }
 
-/// The sort that stands for a word which is a parameter; another word stands for itself.
-#[tactic(auto, unfolding(crate::specs::Sorts::value_of))]
-fn value_of<'a>(parameters: &'a [Name], sorts: &'a [Name], word: &'a [u8]) -> &'a [u8]
-    ensures { result.now ≡ spec.value_of parameters.now sorts.now word.now }
-{
-    let (mut names, mut values) = (parameters, sorts);
-    'pairs: while let [parameter, others @ ..] = names {
-        let [sort, rest @ ..] = values else {
-            return word;
-        };
-        if parameter.as_bytes() == word {
-            return sort.as_bytes();
-        }
-        names = others;
-        values = rest;
-    }
-    word
-}
-
 /// What is written for a token of a sort expression, behind which these stand.
 fn value_at<'a>(
     bytes: &'a [u8],
-    parameters: &'a [Name],
-    sorts: &'a [Name],
+    replacements: &'a Replacements<'_>,
     token: &Token,
     rest: &[Token],
 ) -> &'a [u8]
-    ensures { result.now ≡ spec.value_at parameters.now sorts.now
+    ensures { result.now ≡ spec.value_at replacements.now.parameters replacements.now.sorts
         (token_text bytes.now token.now) (map (token_text bytes.now) rest.now) }
 {
     let word = word(bytes, token);
     if opens(bytes, rest) {
         word
     } else {
-        value_of(parameters, sorts, word)
+        replacements.value_of(word)
     }
 }
 
@@ -109,13 +90,29 @@ pub fn written(
     ensures { IfOk result (λ name. name.bytes
         ≡ spec.written text.now parameters.now sorts.now span) }
 {
+    let replacements = Replacements::new(alloc, parameters, sorts)?;
+    let name = written_by(alloc, text, &replacements, span)?;
+    Ok(name)
+}
+
+/// The written form of the sort expression of a span, with the parameters replaced. Each word is looked up once, so this
+/// is the call for many sort expressions of one module.
+pub fn written_by(
+    alloc: Global,
+    text: &LoadedText,
+    replacements: &Replacements<'_>,
+    span: Span,
+) -> Result<Name, NoMemory>
+    ensures { IfOk result (λ name. name.bytes
+        ≡ spec.written text.now replacements.now.parameters replacements.now.sorts span) }
+{
     let tokens = part(
         text.tokens.as_slice(),
         span.first as usize,
         span.past as usize,
     );
     let mut found = Vec::new(alloc);
-    write_words(&mut found, text.bytes.as_slice(), parameters, sorts, tokens)?;
+    write_words(&mut found, text.bytes.as_slice(), replacements, tokens)?;
     Ok(Name {
         bytes: Items::from_vec(found),
     })
@@ -126,55 +123,76 @@ pub fn written(
 fn write_words(
     found: &mut Vec<u8>,
     bytes: &[u8],
-    parameters: &[Name],
-    sorts: &[Name],
+    replacements: &Replacements<'_>,
     tokens: &[Token],
 ) -> Result<(), NoMemory>
     ensures { OnOk result (found.new.items ≡ found.old.items
-        ++ spec.replaced parameters.now sorts.now (map (token_text bytes.now) tokens.now)) }
+        ++ spec.replaced replacements.now.parameters replacements.now.sorts
+        (map (token_text bytes.now) tokens.now)) }
 {
     let mut left = tokens;
     'words: while let [token, rest @ ..] = left {
-        found.extend_from_slice(value_at(bytes, parameters, sorts, token, rest))?;
+        found.extend_from_slice(value_at(bytes, &*replacements, token, rest))?;
         left = rest;
     }
     Ok(())
 }
 
 /// Whether a sort expression has too many names once the parameters are replaced. It is not written for this.
-pub(crate) fn is_long(text: &LoadedText, parameters: &[Name], sorts: &[Name], span: Span) -> bool
-    ensures { result ≡ nat_lt spec.most_names
-        (spec.names_in (spec.written text.now parameters.now sorts.now span)) }
+pub(crate) fn is_long(text: &LoadedText, replacements: &Replacements<'_>, span: Span) -> bool
+    ensures { result ≡ nat_lt spec.most_names (spec.names_in
+        (spec.written text.now replacements.now.parameters replacements.now.sorts span)) }
 {
     let tokens = part(
         text.tokens.as_slice(),
         span.first as usize,
         span.past as usize,
     );
-    has_many(text.bytes.as_slice(), parameters, sorts, tokens)
+    has_many(text.bytes.as_slice(), replacements, tokens)
 }
 
 /// Whether what is written for these tokens has too many names.
 #[tactic(auto, unfolding(crate::specs::Sorts::replaced), using(crate::proofs::SortLemmas::separators_append, crate::proofs::SortLemmas::names_are))]
-fn has_many(bytes: &[u8], parameters: &[Name], sorts: &[Name], tokens: &[Token]) -> bool
+fn has_many(bytes: &[u8], replacements: &Replacements<'_>, tokens: &[Token]) -> bool
     ensures { result ≡ nat_lt spec.most_names (spec.names_in
-        (spec.replaced parameters.now sorts.now (map (token_text bytes.now) tokens.now))) }
+        (spec.replaced replacements.now.parameters replacements.now.sorts
+        (map (token_text bytes.now) tokens.now))) }
 {
     let mut count = 0;
     let mut left = tokens;
     'words: while let [token, rest @ ..] = left {
-        count += separators_in(value_at(bytes, parameters, sorts, token, rest));
-        if count >= MOST_NAMES {
+        let more = separators_at(bytes, replacements, token, rest);
+        if more >= MOST_NAMES - count {
             return true;
         }
+        count += more;
         left = rest;
     }
     false
 }
 
+/// How many `[` and `,` there are in what is written for a token, behind which these stand.
+fn separators_at(
+    bytes: &[u8],
+    replacements: &Replacements<'_>,
+    token: &Token,
+    rest: &[Token],
+) -> usize
+    ensures { result ≡ spec.separators (spec.value_at
+        replacements.now.parameters replacements.now.sorts
+        (token_text bytes.now token.now) (map (token_text bytes.now) rest.now)) }
+{
+    let word = word(bytes, token);
+    if opens(bytes, rest) {
+        separators_in(word)
+    } else {
+        replacements.separators_of(word)
+    }
+}
+
 /// How many `[` and `,` there are.
 #[tactic(auto, unfolding(crate::specs::Sorts::separators))]
-fn separators_in(written: &[u8]) -> usize
+pub(crate) fn separators_in(written: &[u8]) -> usize
     ensures value { result ≡ spec.separators written.now }
     ensures few { result ≤ length written.now }
 {

@@ -3,6 +3,7 @@
 ghost use Rattle.std.specs.Prelude.{◌≡◌, ◌≤◌, ◌<◌, ◌+◌, ◌-◌, ◌++◌, ◌∷◌, [], true, false, length, nat_le, IfOk, OnOk};
 ghost use Rattle.std.specs.List.{list_any};
 ghost use Rattle.elan_modules.specs.Visits as spec;
+ghost use Rattle.elan_modules.specs.Walking.{Keeps};
 ghost use Rattle.elan_modules.specs.Walks.{Walks, Stays, Is, shelf};
 ghost use Rattle.elan_modules.specs.Loads.{become};
 
@@ -57,10 +58,11 @@ pub(crate) fn visit<L: Loader>(
     path: &[Name],
     reference: &Reference,
 ) -> Result<(), FlattenRefusal>
-    ensures { Walks (λ library. spec.visit
+    ensures walks { Walks (λ library. spec.visit
         (256 - length path.now) library path.now walk.old reference.now)
         (shelf L.library L.misses L.failures loaders.old) (shelf L.library L.misses L.failures loaders.new)
         (become walk.new) result }
+    ensures kept { Keeps walk.old.texts walk.new.texts }
 {
     if is_on(path, reference) {
         return Err(refused_at(alloc, Code::E08, reference));
@@ -85,10 +87,11 @@ fn complete<L: Loader>(
     reference: &Reference,
 ) -> Result<(), FlattenRefusal>
     requires { length path.now < 256 }
-    ensures { Walks (λ library. spec.next (spec.begun library walk.old reference.now)
+    ensures walks { Walks (λ library. spec.next (spec.begun library walk.old reference.now)
         (spec.completed (spec.visit (256 - (length path.now + 1)) library) path.now reference.now))
         (shelf L.library L.misses L.failures loaders.old) (shelf L.library L.misses L.failures loaders.new)
         (become walk.new) result }
+    ensures kept { Keeps walk.old.texts walk.new.texts }
 {
     let opening = begin(alloc, walk, loaders, reference)?;
     let longer = extended(alloc, path, &reference.name)?;
@@ -112,10 +115,11 @@ pub(crate) fn visit_all<L: Loader>(
     path: &[Name],
     references: &[Reference],
 ) -> Result<(), FlattenRefusal>
-    ensures { Walks (λ library. spec.visit_all
+    ensures walks { Walks (λ library. spec.visit_all
         (spec.visit (256 - length path.now) library) path.now walk.old references.now)
         (shelf L.library L.misses L.failures loaders.old) (shelf L.library L.misses L.failures loaders.new)
         (become walk.new) result }
+    ensures kept { Keeps walk.old.texts walk.new.texts }
 {
     let mut left = references;
     'references: while let [first, rest @ ..] = left {

@@ -20,7 +20,7 @@ use Rattle.elan_names.specs.declared.heads.Names.{Names}
 use Rattle.elan_names.specs.declared.index.Index.{Index}
 use Rattle.elan_names.specs.Names.{Word, where_passed, places, first, has_parameters, is_head, is_head_of, is_wide_head, is_wide_head_of, is_labelled, is_label, is_rule_of, prefix_at, is_prefix, is_prefixed, is_prefixed_of, is_anywhere, is_applied_anywhere, is_taken, missing, named, applied, call_or, rules_or, definition_or, operator_or}
 use Rattle.elan_names.specs.Groups.{KeyValue, under, is_key, by_name, by_sort, by_holes, by_prefix}
-use Rattle.elan_names.specs.Indexed.{name_key, head_key, wide_name_key, wide_key, label_key, rule_key, prefix_key, operator_key, keyed, found, below_first, AreHeads, AreLabels, AreOperators, IsIndexOf}
+use Rattle.elan_names.specs.Indexed.{name_key, head_key, wide_name_key, wide_key, label_key, rule_key, prefix_key, operator_key, found, below_first, IsIndexOf}
 
 -- ---- numbers
 

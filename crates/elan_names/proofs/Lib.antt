@@ -1,6 +1,5 @@
 pub mod GroupLemmas
 pub mod IndexLemmas
-pub mod PlanLemmas
 pub mod ResolveLemmas
 pub mod LeafLemmas
 pub mod ValidLemmas

@@ -3,17 +3,15 @@ use Rattle.std.proofs.Common.{◌≡◌, refl, suc, ap, ◌∙◌, ℕ, Bool, Li
 use Rattle.std.specs.Prelude.{Result, Ok, Err}
 use Rattle.elan_terms.specs.declared.tree.SortId.{SortId}
 use Rattle.elan_names.specs.declared.fault.Fault.{Fault}
-use Rattle.elan_names.specs.declared.plan.Plan.{Plan}
-use Rattle.elan_names.specs.declared.plan.PlanNode.TheVariants as node
+use Rattle.elan_phrases.specs.declared.plan.Plan.{Plan}
+use Rattle.elan_phrases.specs.declared.plan.PlanNode.TheVariants as node
 use Rattle.elan_program.specs.declared.strategy.Strategy.{Strategy}
 use Rattle.elan_program.specs.declared.strategy.StrategyNode.TheVariants as made
-use Rattle.elan_names.specs.Resolved.{Site, resolved, at_level, all_at, each_at, next, made_so, over, applied_at, refused_at, name_at, word_at}
+use Rattle.elan_names.specs.Resolved.{Site, resolved, at_level, all_at, next, made_so, applied_at, refused_at, name_at, word_at}
 use Rattle.elan_names.specs.declared.fault.Stopped.{Stopped}
 use Rattle.elan_names.specs.declared.fault.Stopped.TheVariants.{Refused, NoMemory}
-use Rattle.elan_names.specs.declared.heads.Target.{Target}
 use Rattle.elan_names.specs.Gives.{Gives}
-use Rattle.elan_names.specs.Names.{applied}
-use Rattle.elan_names.proofs.PlanLemmas.{plan_falls, fold-applied, fold-seq, fold-all, fold-first, fold-repeat, fold-iterate, fold-iterate_plus, fold-normalise}
+use Rattle.elan_phrases.proofs.PlanLemmas.{plan_falls, fold-applied, fold-seq, fold-all, fold-first, fold-repeat, fold-iterate, fold-iterate_plus, fold-normalise}
 
 pub same_length : {A B : Type 0} (f : A → B) (xs : List A) → length xs ≡ length (map f xs)
 same_length f [] = refl

@@ -1,6 +1,6 @@
 -- Names and what they stand for, worked out by the definitions.
 use Rattle.std.proofs.Common.{◌≡◌, refl, ℕ, ◌+◌, false, List, [], ◌∷◌}
-use Rattle.std.specs.Prelude.{Result, Ok, Err, Option, Some, None, codes}
+use Rattle.std.specs.Prelude.{Ok, Err, Option, Some, None, codes}
 use Rattle.elan_text.specs.declared.refusal.Code.TheVariants.{E07, E16, E20, E22}
 use Rattle.elan_terms.specs.declared.tree.SortId.{SortId}
 use Rattle.elan_program.specs.declared.signature.Assoc.TheVariants.{No}
@@ -9,7 +9,6 @@ use Rattle.elan_program.specs.declared.signature.Piece.{Piece}
 use Rattle.elan_program.specs.declared.signature.Piece.TheVariants.{Hole, Word as APiece}
 use Rattle.elan_names.specs.declared.heads.Names.{Names}
 use Rattle.elan_names.specs.declared.heads.Target.TheVariants as target
-use Rattle.elan_program.specs.declared.strategy.Strategy.{Strategy}
 use Rattle.elan_program.specs.declared.strategy.StrategyNode.TheVariants as made
 use Rattle.elan_lexer.specs.declared.token.Kind.TheVariants.{Word}
 use Rattle.elan_lexer.specs.declared.token.Token.{Token}

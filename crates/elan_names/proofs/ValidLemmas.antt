@@ -1,5 +1,5 @@
 -- What is read from a plan is valid, in each program that has what is known where the plan stands.
-use Rattle.std.proofs.Common.{append_assoc, append-nil, length-append, ◌≡◌, refl, sym, ap, subst, ◌∙◌, ℕ, ◌+◌, ◌<◌, ◌==◌, Bool, true, false, ◌&&◌, List, [], ◌∷◌, ◌++◌, length, map, arith}
+use Rattle.std.proofs.Common.{append_assoc, append-nil, length-append, ◌≡◌, refl, sym, ap, subst, ◌∙◌, ℕ, ◌+◌, ◌<◌, ◌==◌, Bool, true, false, ◌&&◌, List, [], ◌∷◌, ◌++◌, length, arith}
 use Rattle.std.proofs.lemmas.Grind.{common_steps}
 use Rattle.std.specs.Str.{bytes_eq}
 use Rattle.elan_names.specs.declared.fault.Stopped.{Stopped}
@@ -11,9 +11,8 @@ use Rattle.std.specs.Option.{option_map}
 use Rattle.std.proofs.lemmas.Option.{slice_get_within, slice_get-map}
 use Rattle.std.proofs.lemmas.List.Folds.{list_all-append}
 use Rattle.elan_text.specs.declared.refusal.Code.{Code}
-use Rattle.elan_text.specs.declared.refusal.Code.TheVariants.{E07, E16, E22}
+use Rattle.elan_text.specs.declared.refusal.Code.TheVariants.{E07, E22}
 use Rattle.elan_terms.specs.declared.tree.SortId.{SortId}
-use Rattle.elan_terms.specs.declared.tree.OpId.{OpId}
 use Rattle.elan_program.specs.declared.signature.Operator.{Operator}
 use Rattle.elan_program.specs.declared.signature.Piece.{Piece}
 use Rattle.elan_program.specs.declared.signature.Piece.TheVariants.{Hole, Word as APiece}
@@ -21,24 +20,23 @@ use Rattle.elan_program.specs.declared.program.Rule.{Rule}
 use Rattle.elan_program.specs.declared.program.Named.{Named}
 use Rattle.elan_program.specs.declared.program.Parts.{Parts}
 use Rattle.elan_program.specs.declared.strategy.Scope.{Scope}
-use Rattle.elan_program.specs.declared.strategy.Scope.TheVariants.{Outside, Inside}
 use Rattle.elan_program.specs.declared.strategy.Strategy.{Strategy}
 use Rattle.elan_program.specs.declared.strategy.StrategyNode.{StrategyNode}
 use Rattle.elan_program.specs.declared.strategy.StrategyNode.TheVariants as made
 use Rattle.elan_program.specs.Soundness.{same_sort, holes, is_some_list, is_sound, is_sound_operator, is_spelling_of}
-use Rattle.elan_program.specs.Validity.{is_valid_strategy, is_valid_label, is_rule_for, is_named_for, is_valid_param, congruent_sorts, congruence_fits, each_fits, do_ascend}
+use Rattle.elan_program.specs.Validity.{is_valid_strategy, is_rule_for, is_named_for, is_valid_param, congruent_sorts, congruence_fits, each_fits, do_ascend}
 use Rattle.elan_program.proofs.ValidLemmas as program
 use Rattle.elan_names.specs.declared.fault.Fault.{Fault}
 use Rattle.elan_names.specs.declared.heads.Target.{Target}
 use Rattle.elan_names.specs.declared.heads.Target.TheVariants.{Definition, Operator as AnOperator}
 use Rattle.elan_names.specs.declared.heads.Head.{Head}
 use Rattle.elan_names.specs.declared.heads.Label.{Label}
-use Rattle.elan_names.specs.declared.plan.Plan.{Plan}
-use Rattle.elan_names.specs.declared.plan.PlanNode.{PlanNode, Row_of-Plan, end_of-Plan, more_of-Plan}
-use Rattle.elan_names.specs.declared.plan.PlanNode.TheVariants as plan
-use Rattle.elan_names.specs.Plans as plans
-use Rattle.elan_names.specs.Names.{Word, first, places, named, applied, call_or, rules_or, missing, is_anywhere, is_applied_anywhere, is_head, is_head_of, is_wide_head_of, has_parameters, is_labelled, is_rule_of, is_mark, closing, prefix_of, prefix_at, is_prefix, is_prefixed, is_prefixed_of, operator_or, definition_or}
-use Rattle.elan_names.specs.Resolved.{Site, Body, AtSort, resolved, at_level, all_at, each_at, next, made_so, over, sorts_of, refused_at, name_at, name_in, parameter_or, parameter_of, is_parameter, target_at, applied_at, word_at}
+use Rattle.elan_phrases.specs.declared.plan.Plan.{Plan}
+use Rattle.elan_phrases.specs.declared.plan.PlanNode.{PlanNode, Row_of-Plan, end_of-Plan, more_of-Plan}
+use Rattle.elan_phrases.specs.declared.plan.PlanNode.TheVariants as plan
+use Rattle.elan_phrases.specs.Plans as plans
+use Rattle.elan_names.specs.Names.{Word, first, places, named, applied, call_or, rules_or, missing, is_anywhere, is_applied_anywhere, is_head, is_head_of, is_wide_head_of, has_parameters, is_labelled, is_rule_of, is_mark, closing, prefix_of, is_prefix, is_prefixed, is_prefixed_of, operator_or, definition_or}
+use Rattle.elan_names.specs.Resolved.{Site, Body, AtSort, resolved, at_level, all_at, each_at, next, made_so, over, sorts_of, refused_at, name_at, name_in, parameter_or, is_parameter, target_at, applied_at, word_at}
 use Rattle.elan_names.specs.Valid.{IsKnownAt, head_part, named_part, scope_in}
 use Rattle.elan_names.proofs.LeafLemmas.{places_ascend, places_hold, first_found, place_found}
 

@@ -1,4 +1,3 @@
-pub mod Plans
 pub mod Names
 pub mod Groups
 pub mod Indexed

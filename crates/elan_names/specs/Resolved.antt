@@ -1,5 +1,5 @@
 -- A strategy as it is written, read at a sort, or its first refusal from the left.
-use Rattle.std.specs.Prelude.{ℕ, Bool, if◌then◌else◌, Option, Some, None, Result, Ok, Err, List, [], ◌∷◌, ◌++◌, length, map, slice_get}
+use Rattle.std.specs.Prelude.{ℕ, Bool, if◌then◌else◌, Option, Some, None, Result, Ok, Err, List, [], ◌∷◌, ◌++◌, length, slice_get}
 use Rattle.std.specs.Option.{option_map}
 use Rattle.std.specs.Str.{bytes_eq}
 use Rattle.elan_text.specs.declared.refusal.Code.{Code}
@@ -13,14 +13,14 @@ use Rattle.elan_names.specs.declared.fault.Fault.{Fault}
 use Rattle.elan_names.specs.declared.heads.Names.{Names}
 use Rattle.elan_names.specs.declared.heads.Target.{Target}
 use Rattle.elan_names.specs.declared.heads.Target.TheVariants.{Definition, Operator as AnOperator}
-use Rattle.elan_names.specs.declared.plan.Plan.{Plan}
-use Rattle.elan_names.specs.declared.plan.PlanNode.TheOpen.{PlanNode-F as layer}
+use Rattle.elan_phrases.specs.declared.plan.Plan.{Plan}
+use Rattle.elan_phrases.specs.declared.plan.PlanNode.TheOpen.{PlanNode-F as layer}
 use Rattle.elan_program.specs.declared.strategy.Strategy.{Strategy}
 use Rattle.elan_program.specs.declared.strategy.StrategyNode.{StrategyNode}
 use Rattle.elan_program.specs.declared.strategy.StrategyNode.TheVariants as made
 use Rattle.elan_names.specs.declared.site.Body.{Body as LentBody}
 use Rattle.elan_names.specs.declared.site.Site.{Site as LentSite}
-use Rattle.elan_names.specs.Plans.{Layer, fold_plan}
+use Rattle.elan_phrases.specs.Plans.{Layer, fold_plan}
 use Rattle.elan_names.specs.Names.{Word, first, named, applied}
 
 -- the definition in whose body a strategy stands: its parameters, by the numbers of their tokens, and its sort

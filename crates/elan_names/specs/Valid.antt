@@ -1,5 +1,5 @@
 -- When a program is one for which a strategy is read.
-use Rattle.std.specs.Prelude.{◌≡◌, ℕ, Option, Some, None, List, length, map}
+use Rattle.std.specs.Prelude.{◌≡◌, ℕ, Option, Some, None, length, map}
 use Rattle.elan_terms.specs.declared.tree.SortId.{SortId}
 use Rattle.elan_program.specs.declared.program.Rule.{Rule}
 use Rattle.elan_program.specs.declared.program.Named.{Named}

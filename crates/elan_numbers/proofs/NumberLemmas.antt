@@ -1,11 +1,11 @@
 -- Names that are kept as other values.
-use Rattle.std.proofs.Common.{◌≡◌, ◌∙◌, refl, sym, ap, ap₂, subst, ℕ, ◌+◌, Bool, true, false, not, cond, nat_lt, ◌||◌, Some, None, List, [], ◌∷◌, ◌++◌, map}
+use Rattle.std.proofs.Common.{◌≡◌, ◌∙◌, refl, sym, ap, ap₂, subst, ℕ, suc, ◌+◌, Bool, true, false, not, cond, nat_lt, ltb-true, ltb-false, lt-ltb, le-ltb, ◌||◌, is_some, Some, None, List, [], ◌∷◌, ◌++◌, map, length, arith}
 use Rattle.std.specs.List.{position, prefix_len, list_any}
 use Rattle.std.proofs.lemmas.List.{map-append, length-map}
 use Rattle.std.proofs.lemmas.Bool.{cond-false}
 use Rattle.std.specs.Str.{bytes_eq}
 use Rattle.elan_text.specs.declared.name.Name.{Name}
-use Rattle.elan_numbers.specs.Numbering.{with_name, is_called}
+use Rattle.elan_numbers.specs.Numbering.{with_name, is_called, number_of}
 
 module _ {X Y : Type 0} (h : X → Y) where
   prefix_len-map : (p : Y → Bool) (xs : List X) → prefix_len p (map h xs) ≡ prefix_len (λ x. p (h x)) xs
@@ -43,3 +43,38 @@ module _ {V : Type 0} (bytes : V → List ℕ) where
   inserted name v vs ws grew same absent =
       let none = subst (λ (n : List ℕ). list_any (λ w. bytes_eq n (bytes w)) vs ≡ false) (sym same) absent in
       ap (map name_of) (grew ∙ cond-false _ vs (vs ++ v ∷ []) none) ∙ added name v vs same absent
+
+-- ---- a name has a number where it is there
+
+shorter : {A : Type 0} (p : A → Bool) (xs : List A) → nat_lt (prefix_len (λ x. not (p x)) xs) (length xs) ≡ list_any p xs
+shorter p [] = refl
+shorter p (x ∷ xs) = go (p x) refl (shorter p xs)
+  where
+    n : ℕ
+    n = prefix_len (λ y. not (p y)) xs
+
+    more : (b : Bool) → nat_lt n (length xs) ≡ b → nat_lt (1 + n) (suc (length xs)) ≡ b
+    more true is = lt-ltb (1 + n) (suc (length xs)) (omega (arith, ltb-true n (length xs) is))
+    more false is = le-ltb (1 + n) (suc (length xs)) (omega (arith, ltb-false n (length xs) is))
+
+    go : (d : Bool) → p x ≡ d → nat_lt n (length xs) ≡ list_any p xs
+        → nat_lt (cond (not (p x)) (1 + n) 0) (suc (length xs)) ≡ p x || list_any p xs
+    go true e is = rw e (lt-ltb 0 (suc (length xs)) (omega arith))
+    go false e is = rw e (more (list_any p xs) is)
+
+placed : {A : Type 0} (p : A → Bool) (xs : List A) → is_some (position p xs) ≡ list_any p xs
+placed p xs = go (nat_lt (prefix_len (λ x. not (p x)) xs) (length xs)) refl ∙ shorter p xs
+  where
+    go : (d : Bool) → nat_lt (prefix_len (λ x. not (p x)) xs) (length xs) ≡ d → is_some (position p xs) ≡ nat_lt (prefix_len (λ x. not (p x)) xs) (length xs)
+    go true e = rw e refl
+    go false e = rw e refl
+
+-- a name has a number exactly where it is among the names
+pub numbered_any : (bytes : List ℕ) (names : List Name) → is_some (number_of bytes names) ≡ list_any (is_called bytes) names
+unfolding number_of
+numbered_any bytes names = placed (is_called bytes) names
+
+-- a name that is not there comes behind the others
+pub new_behind : (names : List Name) (name : List ℕ) → list_any (is_called name) names ≡ false
+    → with_name names name ≡ names ++ record { bytes = name } ∷ []
+new_behind names name absent = rw absent refl

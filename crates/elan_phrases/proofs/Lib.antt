@@ -5,3 +5,4 @@ pub mod ExactSorts
 pub mod ExactStrategies
 pub mod SortMarks
 pub mod StrategyMarks
+pub mod PlanLemmas

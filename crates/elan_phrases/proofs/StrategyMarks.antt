@@ -1,16 +1,20 @@
 -- A front of a strategy is marked exactly where it has more tokens than the limit.
-use Rattle.std.proofs.Common.{◌≡◌, ℕ, suc, ◌<◌, Bool, true, cond, List, [], ◌∷◌, ◌++◌, length, refl, sym, ap, ◌∙◌, arith}
+use Rattle.std.proofs.Common.{◌≡◌, ℕ, suc, ◌<◌, Bool, true, false, cond, List, [], ◌∷◌, ◌++◌, length, refl, sym, ap, subst, ◌∙◌, arith}
 use Rattle.std.specs.Prelude.{◌↔◌, count_by}
 use Rattle.std.proofs.lemmas.List.Sums.{sum_by-cons}
 use Rattle.elan_forms.specs.Whole.{Possible, EndsWith, IsFirstMark}
 use Rattle.elan_forms.specs.Form.{◌>>=◌, counted, pure}
-use Rattle.elan_forms.proofs.Marks.{Counts, counts_less, counts_silent, counts_counted, counts_then, counts_behind, counts_either, counts_loop, counts_nested, marks_are, first_mark}
+use Rattle.elan_forms.proofs.Marks.{Counts, itself, counts_less, counts_pure, counts_counted, counts_then, counts_behind, counts_placed, counts_either, counts_loop, counts_nested, marks_are, first_mark}
+use Rattle.elan_phrases.specs.declared.left.Left.{Left}
+use Rattle.elan_phrases.specs.declared.plan.Plan.{Plan}
+use Rattle.elan_phrases.specs.declared.plan.PlanNode.{PlanNode}
+use Rattle.elan_phrases.specs.declared.plan.PlanNode.TheVariants as plan
 use Rattle.elan_phrases.specs.declared.symbol.Symbol.{Symbol}
-use Rattle.elan_phrases.specs.declared.symbol.Symbol.TheVariants.{Comma, Semicolon, LeftRound, RightRound, Star, Id, Dk, One, Dc, Repeat, Iterate, Normalise, Name}
-use Rattle.elan_phrases.specs.Symbols.{Seen, one, a, names, labels, plain_steps, choices, round_signs}
+use Rattle.elan_phrases.specs.declared.symbol.Symbol.TheVariants.{Comma, Semicolon, LeftRound, RightRound, Star, Plus, Id, Fail, Dk, One, Dc, Repeat, Iterate, Normalise, Name}
+use Rattle.elan_phrases.specs.Symbols.{Seen, one, a, names, labels, choices}
 use Rattle.elan_phrases.specs.Beginnings.{begins_step}
-use Rattle.elan_phrases.specs.SortExpressions.{Limited}
-use Rattle.elan_phrases.specs.Strategies.{more_arms, arms, some_arms, named, all_of, inside, alternatives, choice, repeated, iterated, normal, step, more_steps, strategy_body, strategy}
+use Rattle.elan_phrases.specs.Tokens.{Rule}
+use Rattle.elan_phrases.specs.Strategies.{Counted, with_left, made, behind, one_arm, more_arms, arms, inside, plain, some_of, some_arms, called, named, all_among, all_of, first_among, first_arms, alternatives, choice, wrapped, repeated, rounds, iterated, normal, step, one_step, more_steps, turned, strategy_body, strategy}
 use Rattle.elan_phrases.proofs.SymbolSets.{same_is}
 use Rattle.elan_phrases.proofs.ExactTokens.{sample}
 use Rattle.elan_phrases.proofs.ExactStrategies.{from_named, from_inside, from_all, from_choice, from_repeated, from_iterated, strategy_grows, strategy_lessens, strategy_word}
@@ -19,103 +23,161 @@ use Rattle.elan_phrases.proofs.ExactStrategies.{from_named, from_inside, from_al
 abbrev each : Seen → Bool
 each t = true
 
-sign_counts : (b : ℕ) (s : Symbol) → Counts each b (counted (a (one s)))
-sign_counts b s = counts_counted each b (a (one s)) (sample s) (same_is s) (λ t e. refl)
+-- how many tokens are left behind what was taken
+abbrev rest_of : {V : Type 0} → Left V → ℕ
+rest_of x = x.left
 
-behind : (b : ℕ) (s : Symbol) (S : Limited) → Counts each b S →
-    Counts each (suc b) (λ left. counted (a (one s)) left >>= S)
-behind b s S h = counts_behind each b (a (one s)) (sample s) S (same_is s) (λ t e. refl) h
+-- a counted rule whose tokens count, on texts shorter than a bound
+abbrev CountsAll : {V : Type 0} → ℕ → Counted V → Type 0
+CountsAll b S = (left : ℕ) → Counts each b left rest_of (S left)
 
-module _ (b : ℕ) (h : Counts each b strategy) where
-  less : (R : Limited) → Counts each (suc b) R → Counts each b R
-  less R k = counts_less each b (suc b) R (omega arith) k
+sign_counts : (b : ℕ) (s : Symbol) (left : ℕ) → Counts each b left itself (counted (a (one s)) left)
+sign_counts b s left = counts_counted each b left (a (one s)) (sample s) (same_is s) (λ t e. refl)
 
-  more_arms_counts : Counts each b (more_arms strategy)
+-- behind a token the bound is one more
+behind_token : {V : Type 0} (b : ℕ) (p : Symbol → Bool) (s : Symbol) (S : Counted V) → p s ≡ true → CountsAll b S →
+    CountsAll (suc b) (λ left. counted (a p) left >>= S)
+behind_token b p s S e h left = counts_behind each b left rest_of (a p) (sample s) S e (λ t x. refl) h
+
+less : {V : Type 0} (b : ℕ) (R : Counted V) → CountsAll (suc b) R → CountsAll b R
+less b R k left = counts_less each b (suc b) left rest_of (R left) (omega arith) (k left)
+
+-- a value that is made of what was taken, and leaves as much
+value_counts : {A B : Type 0} (b left : ℕ) (f : Rule (Left A)) (value : Left A → Left B) →
+    ((x : Left A) → (value x).left ≡ x.left) → Counts each b left rest_of f →
+    Counts each b left rest_of (f >>= (λ x. pure (value x)))
+value_counts b left f value same h = counts_then each b left rest_of rest_of f (λ x. pure (value x)) h
+    (λ x. subst (λ z. Counts each b z rest_of (pure (value x))) (same x) (counts_pure each b rest_of (value x)))
+
+-- the sign that closes, behind which as much is left as the sign leaves
+closing_counts : {V : Type 0} (b : ℕ) (left : ℕ) (value : V) →
+    Counts each b left rest_of (counted (a (one RightRound)) left >>= (λ l. pure (with_left l value)))
+closing_counts b left value = counts_then each b left itself rest_of (counted (a (one RightRound)) left)
+    (λ l. pure (with_left l value)) (sign_counts b RightRound left)
+    (λ l. counts_pure each b rest_of (with_left l value))
+
+plain_counts : (b : ℕ) → CountsAll b plain
+unfolding plain
+plain_counts b left = counts_either each b left rest_of _ _ (word Id plan.Id) (word Fail plan.Fail)
+  where
+    word : (s : Symbol) (node : PlanNode) →
+        Counts each b left rest_of (counted (a (one s)) left >>= (λ l. pure (made node l)))
+    word s node = counts_then each b left itself rest_of (counted (a (one s)) left) (λ l. pure (made node l))
+        (sign_counts b s left) (λ l. counts_pure each b rest_of (made node l))
+
+module _ (b : ℕ) (h : CountsAll b strategy) where
+  arm_counts : (x : Left (List Plan)) → Counts each b x.left rest_of (one_arm strategy x)
+  arm_counts x = less b _ (behind_token b (one Comma) Comma _ (same_is Comma)
+      (λ l. value_counts b l (strategy l) (behind x.value) (λ y. refl) (h l))) x.left
+
+  more_arms_counts : (x : Left (List Plan)) → Counts each b x.left rest_of (more_arms strategy x)
   unfolding more_arms
-  more_arms_counts = counts_loop each b (λ _. a (one Comma)) (λ l. counted (a (one Comma)) l >>= strategy)
-      (less _ (behind b Comma strategy h))
+  more_arms_counts = counts_loop each b rest_of (λ _. a (one Comma)) (one_arm strategy) arm_counts
 
-  closed_counts : Counts each b (λ l. strategy l >>= (λ l2. more_arms strategy l2 >>= counted (a (one RightRound))))
-  closed_counts =
-      counts_then each b strategy (λ l. more_arms strategy l >>= counted (a (one RightRound))) h
-      (counts_then each b (more_arms strategy) (counted (a (one RightRound))) more_arms_counts
-      (sign_counts b RightRound))
-
-  arms_counts : Counts each (suc b) (arms strategy)
+  arms_counts : CountsAll (suc b) (arms strategy)
   unfolding arms
-  arms_counts = behind b LeftRound _ closed_counts
+  arms_counts = behind_token b (one LeftRound) LeftRound _ (same_is LeftRound) (λ l.
+      counts_then each b l rest_of rest_of (strategy l) _ (h l) (λ first.
+      counts_then each b first.left rest_of rest_of (more_arms strategy (behind [] first)) _
+      (more_arms_counts (behind [] first)) (λ all. closing_counts b all.left all.value)))
 
-  inside_counts : Counts each (suc b) (inside strategy)
+  inside_counts : CountsAll (suc b) (inside strategy)
   unfolding inside
-  inside_counts = behind b LeftRound _ (counts_then each b strategy (counted (a (one RightRound))) h
-      (sign_counts b RightRound))
+  inside_counts = behind_token b (one LeftRound) LeftRound _ (same_is LeftRound) (λ l.
+      counts_then each b l rest_of rest_of (strategy l) _ (h l) (λ found. closing_counts b found.left found.value))
+
+  wrapped_counts : (kind_of : Plan → PlanNode) → CountsAll (suc b) (wrapped kind_of strategy)
+  wrapped_counts kind_of left = value_counts (suc b) left (inside strategy left)
+      (λ found. made (kind_of found.value) found.left) (λ x. refl) (inside_counts left)
 
   -- behind a token, what counts on longer texts does so
-  after_token : (p : Symbol → Bool) (s : Symbol) (S : Limited) → p s ≡ true → Counts each (suc b) S →
-      Counts each (suc b) (λ left. counted (a p) left >>= S)
-  after_token p s S e k = counts_less each (suc b) (suc (suc b)) _ (omega arith)
-      (counts_behind each (suc b) (a p) (sample s) S e (λ t x. refl) k)
+  after_token : {V : Type 0} (p : Symbol → Bool) (s : Symbol) (S : Counted V) → p s ≡ true → CountsAll (suc b) S →
+      CountsAll (suc b) (λ left. counted (a p) left >>= S)
+  after_token p s S e k = less (suc b) _ (behind_token (suc b) p s S e k)
 
-  some_arms_counts : Counts each (suc b) (some_arms strategy)
-  some_arms_counts = counts_either each (suc b) (arms strategy) (λ l. pure l) arms_counts (counts_silent each (suc b))
+  some_arms_counts : CountsAll (suc b) (some_arms strategy)
+  some_arms_counts left = counts_either each (suc b) left rest_of (arms strategy left >>= (λ all. pure (some_of all)))
+      (pure (with_left left _)) (value_counts (suc b) left (arms strategy left) some_of (λ x. refl) (arms_counts left))
+      (counts_pure each (suc b) rest_of (with_left left _))
 
-  named_counts : Counts each (suc b) (named strategy)
+  named_counts : CountsAll (suc b) (named strategy)
   unfolding named labels names
-  named_counts = after_token labels Name (some_arms strategy) refl some_arms_counts
+  named_counts left = counts_placed each (suc b) left rest_of rest_of (λ at v past. called at v)
+      (counted (a labels) left >>= some_arms strategy) (λ n v m. refl)
+      (after_token labels Name (some_arms strategy) refl some_arms_counts left)
 
-  all_of_counts : Counts each (suc b) (all_of strategy)
+  all_of_counts : CountsAll (suc b) (all_of strategy)
   unfolding all_of
-  all_of_counts = after_token (one Dk) Dk (arms strategy) (same_is Dk) arms_counts
+  all_of_counts = after_token (one Dk) Dk _ (same_is Dk)
+      (λ l. value_counts (suc b) l (arms strategy l) all_among (λ x. refl) (arms_counts l))
 
-  alternatives_counts : Counts each (suc b) (alternatives strategy)
+  first_arms_counts : (alone : Bool) → CountsAll (suc b) (first_arms alone strategy)
+  first_arms_counts alone left = value_counts (suc b) left (arms strategy left) (first_among alone) (λ x. refl)
+      (arms_counts left)
+
+  alternatives_counts : CountsAll (suc b) (alternatives strategy)
   unfolding alternatives
-  alternatives_counts = counts_either each (suc b) (λ l. counted (a (one One)) l >>= arms strategy) (arms strategy)
-      (after_token (one One) One (arms strategy) (same_is One) arms_counts) arms_counts
+  alternatives_counts left = counts_either each (suc b) left rest_of
+      (counted (a (one One)) left >>= first_arms true strategy) (first_arms false strategy left)
+      (after_token (one One) One (first_arms true strategy) (same_is One) (first_arms_counts true) left)
+      (first_arms_counts false left)
 
-  choice_counts : Counts each (suc b) (choice strategy)
+  choice_counts : CountsAll (suc b) (choice strategy)
   unfolding choice choices
   choice_counts = after_token choices Dc (alternatives strategy) refl alternatives_counts
 
-  repeated_counts : Counts each (suc b) (repeated strategy)
+  repeated_counts : CountsAll (suc b) (repeated strategy)
   unfolding repeated
-  repeated_counts = after_token (one Repeat) Repeat _ (same_is Repeat) (after_token (one Star) Star (inside strategy)
-      (same_is Star) inside_counts)
+  repeated_counts = after_token (one Repeat) Repeat _ (same_is Repeat) (after_token (one Star) Star
+      (wrapped plan.Repeat strategy) (same_is Star) (wrapped_counts plan.Repeat))
 
-  iterated_counts : Counts each (suc b) (iterated strategy)
-  unfolding iterated round_signs
-  iterated_counts = after_token (one Iterate) Iterate _ (same_is Iterate) (after_token round_signs Star (inside strategy)
-      refl inside_counts)
+  rounds_counts : CountsAll (suc b) (rounds strategy)
+  unfolding rounds
+  rounds_counts left = counts_either each (suc b) left rest_of (counted (a (one Star)) left >>= wrapped plan.Iterate strategy)
+      (counted (a (one Plus)) left >>= wrapped plan.IteratePlus strategy)
+      (after_token (one Star) Star (wrapped plan.Iterate strategy) (same_is Star) (wrapped_counts plan.Iterate) left)
+      (after_token (one Plus) Plus (wrapped plan.IteratePlus strategy) (same_is Plus) (wrapped_counts plan.IteratePlus)
+      left)
 
-  normal_counts : Counts each (suc b) (normal strategy)
+  iterated_counts : CountsAll (suc b) (iterated strategy)
+  unfolding iterated
+  iterated_counts = after_token (one Iterate) Iterate (rounds strategy) (same_is Iterate) rounds_counts
+
+  normal_counts : CountsAll (suc b) (normal strategy)
   unfolding normal
-  normal_counts = after_token (one Normalise) Normalise (inside strategy) (same_is Normalise) inside_counts
+  normal_counts = after_token (one Normalise) Normalise (wrapped plan.Normalise strategy) (same_is Normalise)
+      (wrapped_counts plan.Normalise)
 
-  step_counts : Counts each (suc b) (step strategy)
-  unfolding step plain_steps
-  step_counts =
-      counts_either each (suc b) (counted (a plain_steps)) (from_named strategy)
-      (counts_counted each (suc b) (a plain_steps) (sample Id) refl (λ t e. refl))
-      (counts_either each (suc b) (named strategy) (from_inside strategy) named_counts
-      (counts_either each (suc b) (inside strategy) (from_all strategy) inside_counts
-      (counts_either each (suc b) (all_of strategy) (from_choice strategy) all_of_counts
-      (counts_either each (suc b) (choice strategy) (from_repeated strategy) choice_counts
-      (counts_either each (suc b) (repeated strategy) (from_iterated strategy) repeated_counts
-      (counts_either each (suc b) (iterated strategy) (normal strategy) iterated_counts normal_counts))))))
+  step_counts : CountsAll (suc b) (step strategy)
+  unfolding step
+  step_counts s =
+      counts_either each (suc b) s rest_of (plain s) (from_named strategy s) (plain_counts (suc b) s)
+      (counts_either each (suc b) s rest_of (named strategy s) (from_inside strategy s) (named_counts s)
+      (counts_either each (suc b) s rest_of (inside strategy s) (from_all strategy s) (inside_counts s)
+      (counts_either each (suc b) s rest_of (all_of strategy s) (from_choice strategy s) (all_of_counts s)
+      (counts_either each (suc b) s rest_of (choice strategy s) (from_repeated strategy s) (choice_counts s)
+      (counts_either each (suc b) s rest_of (repeated strategy s) (from_iterated strategy s) (repeated_counts s)
+      (counts_either each (suc b) s rest_of (iterated strategy s) (normal strategy s) (iterated_counts s)
+      (normal_counts s)))))))
 
-  more_steps_counts : Counts each (suc b) (more_steps strategy)
+  turn_counts : (x : Left (List Plan)) → Counts each (suc b) x.left rest_of (one_step strategy x)
+  turn_counts x = after_token (one Semicolon) Semicolon _ (same_is Semicolon)
+      (λ l. value_counts (suc b) l (step strategy l) (behind x.value) (λ y. refl) (step_counts l)) x.left
+
+  more_steps_counts : (x : Left (List Plan)) → Counts each (suc b) x.left rest_of (more_steps strategy x)
   unfolding more_steps
-  more_steps_counts =
-      counts_loop each (suc b) (λ _. a (one Semicolon)) (λ l. counted (a (one Semicolon)) l >>= step strategy)
-      (after_token (one Semicolon) Semicolon (step strategy) (same_is Semicolon) step_counts)
+  more_steps_counts = counts_loop each (suc b) rest_of (λ _. a (one Semicolon)) (one_step strategy) turn_counts
 
-  strategy_body_counts : Counts each (suc b) (strategy_body strategy)
+  strategy_body_counts : CountsAll (suc b) (strategy_body strategy)
   unfolding strategy_body
-  strategy_body_counts = counts_then each (suc b) (step strategy) (more_steps strategy) step_counts more_steps_counts
+  strategy_body_counts left = counts_then each (suc b) left rest_of rest_of (step strategy left) _ (step_counts left)
+      (λ first. value_counts (suc b) first.left (more_steps strategy (behind [] first)) turned (λ x. refl)
+      (more_steps_counts (behind [] first)))
 
-strategy_counts : (b : ℕ) → Counts each b strategy
+strategy_counts : (b : ℕ) → CountsAll b strategy
 unfolding strategy
-strategy_counts b = counts_nested each (a begins_step) strategy_body strategy_grows strategy_lessens strategy_word
-    strategy_body_counts b
+strategy_counts b = counts_nested each rest_of (a begins_step) strategy_body strategy_grows strategy_lessens
+    strategy_word strategy_body_counts b
 
 -- ---- as each token counts, its length is what counts
 
@@ -137,7 +199,7 @@ strategy_marks left n front = (
   where
     are : (strategy left).marks n front ↔
         (EndsWith each front × (left < count_by each front) × Possible ((strategy left).words n) front)
-    are = marks_are each strategy strategy_counts left n front
+    are = marks_are each left rest_of (strategy left) (λ b. strategy_counts b left) n front
 
 pub strategy_first_mark : (left n : ℕ) (front : List Seen) (t : Seen) → IsFirstMark ((strategy left).marks n) front t ↔
     ((length front ≡ left) × Possible ((strategy left).words n) (front ++ t ∷ []))
@@ -148,4 +210,4 @@ strategy_first_mark left n front t = (
   where
     first : IsFirstMark ((strategy left).marks n) front t ↔
         ((each t ≡ true) × (count_by each front ≡ left) × Possible ((strategy left).words n) (front ++ t ∷ []))
-    first = first_mark each strategy strategy_counts left n front t
+    first = first_mark each left rest_of (strategy left) (λ b. strategy_counts b left) n front t

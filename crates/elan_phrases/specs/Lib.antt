@@ -5,3 +5,4 @@ pub mod Texts
 pub mod SortExpressions
 pub mod Strategies
 pub mod Input
+pub mod Plans

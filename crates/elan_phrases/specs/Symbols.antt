@@ -1,5 +1,5 @@
 -- What a token is to the grammar, and which tokens its rules speak of.
-use Rattle.std.specs.Prelude.{ℕ, Bool, true, false, not, cond, nat_le, ◌&&◌, List, [], ◌∷◌, map, Option, Some, None, codes}
+use Rattle.std.specs.Prelude.{ℕ, Bool, true, false, not, cond, nat_le, ◌&&◌, ◌||◌, List, [], ◌∷◌, map, Option, Some, None, codes}
 use Rattle.std.specs.List.{list_any}
 use Rattle.std.specs.Str.{bytes_eq}
 use denote.Enum.Bare.{sameb}
@@ -127,22 +127,14 @@ labels Normalise = false
 labels s = names s
 
 -- `id` or `fail`
-unfoldable pub plain_steps : Symbol → Bool
-plain_steps Id = true
-plain_steps Fail = true
-plain_steps _ = false
+abbrev pub plain_steps : Symbol → Bool
+plain_steps s = one Id s || one Fail s
 
 -- `dc` or `first`
 unfoldable pub choices : Symbol → Bool
 choices Dc = true
 choices First = true
 choices _ = false
-
--- `*` or `+`
-unfoldable pub round_signs : Symbol → Bool
-round_signs Star = true
-round_signs Plus = true
-round_signs _ = false
 
 -- a name that does not end the imports of an `LPL` text
 unfoldable pub imported : Symbol → Bool

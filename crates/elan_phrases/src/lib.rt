@@ -3,6 +3,8 @@
 
 mod halt;
 pub mod laws;
+mod left;
+mod plan;
 mod reader;
 mod referring;
 mod seeing;
@@ -14,11 +16,12 @@ mod texts;
 mod worth;
 
 pub use halt::{Halt, pushed};
+pub use plan::{Plan, PlanNode, Planned};
 pub use reader::Reader;
 pub use referring::references;
 pub use seeing::lexemes;
 pub use sort_expressions::{closing_arguments, more_sorts, sort_span};
 pub use span::Span;
-pub use strategies::{some_strategy, strategy_span};
+pub use strategies::{some_strategy, strategy_plan};
 pub use symbol::{Importer, Lexeme, Symbol, is_unreserved};
 pub use texts::text;

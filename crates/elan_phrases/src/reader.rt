@@ -12,9 +12,9 @@ use crate::halt::Halt;
 use crate::span::Span;
 use crate::symbol::{
     Importer, Lexeme, Symbol, associativities, choices, importable, in_text, labels, names,
-    plain_steps, round_signs, same_symbol, spelled, visibilities,
+    plain_steps, same_symbol, spelled, visibilities,
 };
-use crate::worth::{is_among, is_named, is_small};
+use crate::worth::{is_named, is_small};
 use elan_forms::Why;
 use elan_text::{Name, NoMemory};
 use std::alloc::Global;
@@ -150,16 +150,6 @@ impl<'a> Reader<'a> {
         }
     }
 
-    /// Whether the next token is `*` or `+`.
-    pub fn sees_round_sign(&self) -> bool
-        ensures { result ≡ sees (a spec.round_signs) self.now }
-    {
-        match self.rest {
-            [next, ..] => round_signs(next.symbol),
-            [] => false,
-        }
-    }
-
     /// Whether the next token begins a strategy.
     pub fn sees_step(&self) -> bool
         ensures { result ≡ sees (a begin.begins_step) self.now }
@@ -270,17 +260,6 @@ impl<'a> Reader<'a> {
     {
         match self.rest {
             [next, ..] => same_symbol(next.symbol, Symbol::Number) && is_small(next.text),
-            [] => false,
-        }
-    }
-
-    /// Whether the next token is a name that is none of these.
-    #[tactic(auto, unfolding(crate::specs::Symbols::fresh))]
-    pub fn sees_fresh(&self, taken: &[Name]) -> bool
-        ensures { result ≡ sees (spec.fresh taken.now) self.now }
-    {
-        match self.rest {
-            [next, ..] => names(next.symbol) && !is_among(next.text, taken),
             [] => false,
         }
     }

@@ -300,11 +300,10 @@ pub fn labels(symbol: Symbol) -> bool
 }
 
 /// Whether it is `id` or `fail`.
-#[tactic(auto, unfolding(crate::specs::Symbols::plain_steps))]
 pub fn plain_steps(symbol: Symbol) -> bool
     ensures { result ≡ spec.plain_steps symbol }
 {
-    matches!(symbol, Symbol::Id | Symbol::Fail)
+    same_symbol(symbol, Symbol::Id) || same_symbol(symbol, Symbol::Fail)
 }
 
 /// Whether it is `dc` or `first`.
@@ -313,14 +312,6 @@ pub fn choices(symbol: Symbol) -> bool
     ensures { result ≡ spec.choices symbol }
 {
     matches!(symbol, Symbol::Dc | Symbol::First)
-}
-
-/// Whether it is `*` or `+`.
-#[tactic(auto, unfolding(crate::specs::Symbols::round_signs))]
-pub fn round_signs(symbol: Symbol) -> bool
-    ensures { result ≡ spec.round_signs symbol }
-{
-    matches!(symbol, Symbol::Star | Symbol::Plus)
 }
 
 /// Whether it is a name that does not end the imports of an `LPL` text.

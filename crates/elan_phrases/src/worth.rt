@@ -1,7 +1,6 @@
 //! What the bytes of a token are worth.
 
 ghost use Rattle.std.specs.Prelude.{◌≡◌, nat_le};
-ghost use Rattle.std.specs.List.{list_any};
 ghost use Rattle.elan_lexer.specs.Bytes.{value};
 ghost use Rattle.elan_phrases.specs.Symbols as spec;
 
@@ -30,11 +29,4 @@ pub fn is_named(word: &[u8], name: &Name) -> bool
     ensures { result ≡ spec.is_named word.now name.now }
 {
     name.as_bytes() == word
-}
-
-/// Whether one of the names has this word.
-pub fn is_among(word: &[u8], names: &[Name]) -> bool
-    ensures { result ≡ list_any (spec.is_named word.now) names.now }
-{
-    names.iter().any(|name| is_named(word, name))
 }

@@ -1,4 +1,6 @@
+pub mod FlatLemmas
 pub mod Asking
+pub mod Telling
 pub mod Verdicts
 pub mod Leaving
 pub mod Causes

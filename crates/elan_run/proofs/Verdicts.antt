@@ -1,59 +1,80 @@
 -- Words and an input have one verdict, and so one report.
-use Rattle.std.proofs.Common.{◌≡◌, ◌<◌, ◌≤◌, ℕ, List, Option, Some, None, length, refl, sym, ◌∙◌, ap, subst, arith}
+use Rattle.std.proofs.Common.{◌≡◌, ◌<◌, ◌≤◌, ℕ, List, Result, Ok, Err, length, refl, sym, ◌∙◌, ap, subst, arith}
 use Rattle.elan_text.specs.declared.refusal.Code.{Code}
 use Rattle.elan_text.specs.declared.refusal.Place.{Place}
+use Rattle.elan_text.specs.declared.refusal.Refusal.{Refusal}
 use Rattle.elan_lexer.specs.declared.token.Token.{Token}
-use Rattle.elan_lexer.specs.Text.{Fits}
 use Rattle.elan_lexer.proofs.Answered.{apart, fits_once, refuses_once}
 use Rattle.elan_phrases.specs.Symbols.{seen}
-use Rattle.elan_syntax.specs.declared.parts.Outline.{Outline}
 use Rattle.elan_syntax.specs.Grammar.{stream}
-use Rattle.elan_syntax.specs.Outlines.{IsOutline, Refuses}
+use Rattle.elan_syntax.specs.Outlines.{IsOutline, Refuses as RefusesOutline}
 use Rattle.elan_syntax.proofs.ExactStreams.{stream_gives}
 use Rattle.elan_syntax.proofs.Whole.{two_values, two_refusals, value_refused}
-use Rattle.elan_prepare.specs.declared.prepared.Prepared.{Prepared}
-use Rattle.elan_prepare.specs.Words.{words_of}
-use Rattle.elan_prepare.specs.Prepared.{prepared}
+use Rattle.elan_modules.specs.Visits.{Library, Halted, Refuses, Silent}
+use Rattle.elan_check.specs.declared.prepared.Prepared.{Prepared}
 use Rattle.elan_run.specs.declared.status.Status.{Status}
-use Rattle.elan_run.specs.Verdict.{Asks, LacksOutline, most_bytes, Verdict, Misused, TooLong, BadToken, BadOutline, Accepted, NotBuilt, IsVerdict, IsReport, text_for, status_for}
+use Rattle.elan_run.specs.Verdict.{Asks, asked_of, LacksOutline, most_bytes, Verdict, Misused, TooLong, BadToken, BadOutline, BadProgram, Accepted, IsVerdict, IsSilent, IsReport, text_for, status_for}
 
--- two that are there are one
-some_once : (p q : Prepared) → Some p ≡ Some q → p ≡ q
-some_once p q e = cc
+-- what is asked
+abbrev Asked : Type 0
+Asked = Result Prepared Halted
 
-not_both : {X : Type 0} (p : Prepared) → Some p ≡ None → X
-not_both p e = absurd cc
+abbrev the_program : Prepared → Asked
+the_program p = Ok p
 
--- the tokens of a text and its outline, with what these ask
-abbrev Has : List ℕ → Option Prepared → Type 0
-Has bytes p =
-    (tokens : List Token) × (outline : Outline) × Fits bytes tokens × IsOutline (seen bytes tokens) outline
-    × (prepared (words_of bytes tokens) outline ≡ p)
+abbrev the_error : Halted → Asked
+the_error h = Err h
 
--- a text has one answer to what it asks
-has_once : (bytes : List ℕ) (p q : Option Prepared) → Has bytes p → Has bytes q → p ≡ q
-has_once bytes p q a b =
+same_program : (p q : Prepared) → the_program p ≡ the_program q → p ≡ q
+same_program p q e = cc
+
+same_halted : (h k : Halted) → the_error h ≡ the_error k → h ≡ k
+same_halted h k e = cc
+
+same_refusal : (r u : Refusal) → Refuses r ≡ Refuses u → r ≡ u
+same_refusal r u e = cc
+
+no_silent : (r : Refusal) → Refuses r ≡ Silent → ⊥
+no_silent r e = cc
+
+program_halted : (p : Prepared) (h : Halted) → the_program p ≡ the_error h → ⊥
+program_halted p h e = cc
+
+-- a stream asks one thing over a library
+asks_once : (library : Library) (bytes : List ℕ) (p q : Result Prepared Halted) → Asks library bytes p → Asks library bytes q → p ≡ q
+asks_once library bytes p q a b =
     let tokens : a.0 ≡ b.0 = fits_once bytes a.0 b.0 a.2 b.2 in
     let P : List Token → Type 0 = λ ts. IsOutline (seen bytes ts) a.1 in
     let outlines : a.1 ≡ b.1 = two_values stream stream_gives (seen bytes b.0) a.1 b.1 (subst P tokens a.3) b.3 in
-    sym a.4 ∙ ap (λ ts. prepared (words_of bytes ts) a.1) tokens ∙ ap (prepared (words_of bytes b.0)) outlines ∙ b.4
+    sym a.4 ∙ ap (λ ts. asked_of library bytes ts a.1) tokens ∙ ap (asked_of library bytes b.0) outlines ∙ b.4
 
--- a text asks one thing
-pub asks_once : (bytes : List ℕ) (p q : Prepared) → Asks bytes p → Asks bytes q → p ≡ q
-asks_once bytes p q a b = some_once p q (has_once bytes (Some p) (Some q) a b)
+program_once : (library : Library) (bytes : List ℕ) (p q : Prepared) → Asks library bytes (Ok p) → Asks library bytes (Ok q) → p ≡ q
+program_once library bytes p q a b = same_program p q (asks_once library bytes (Ok p) (Ok q) a b)
+
+halted_once : (library : Library) (bytes : List ℕ) (h k : Halted) → Asks library bytes (Err h) → Asks library bytes (Err k) → h ≡ k
+halted_once library bytes h k a b = same_halted h k (asks_once library bytes (Err h) (Err k) a b)
+
+refusal_once : (library : Library) (bytes : List ℕ) (r u : Refusal)
+    → Asks library bytes (Err (Refuses r)) → Asks library bytes (Err (Refuses u)) → r ≡ u
+refusal_once library bytes r u a b = same_refusal r u (halted_once library bytes (Refuses r) (Refuses u) a b)
+
+not_both : {X : Type 0} (library : Library) (bytes : List ℕ) (p : Prepared) (halted : Halted)
+    → Asks library bytes (Ok p) → Asks library bytes (Err halted) → X
+not_both library bytes p halted a b = absurd (program_halted p halted (asks_once library bytes (Ok p) (Err halted) a b))
 
 -- what has an outline does not lack one
-has_lacks : (bytes : List ℕ) (p : Option Prepared) (c : Code) (at : Place) → Has bytes p → LacksOutline bytes c at → ⊥
-has_lacks bytes p c at a b =
+asks_lacks : {X : Type 0} (library : Library) (bytes : List ℕ) (p : Result Prepared Halted) (c : Code) (at : Place)
+    → Asks library bytes p → LacksOutline bytes c at → X
+asks_lacks library bytes p c at a b =
     let tokens : a.0 ≡ b.0 = fits_once bytes a.0 b.0 a.2 b.1 in
     let P : List Token → Type 0 = λ ts. IsOutline (seen bytes ts) a.1 in
-    value_refused stream stream_gives bytes b.0 a.1 c at (subst P tokens a.3) b.2
+    absurd (value_refused stream stream_gives bytes b.0 a.1 c at (subst P tokens a.3) b.2)
 
 -- a text lacks an outline for one reason
 lacks_once : (bytes : List ℕ) (c d : Code) (at there : Place) → LacksOutline bytes c at → LacksOutline bytes d there →
     (c ≡ d) × (at ≡ there)
 lacks_once bytes c d at there a b =
-    let P : List Token → Type 0 = λ ts. Refuses bytes ts c at in
+    let P : List Token → Type 0 = λ ts. RefusesOutline bytes ts c at in
     two_refusals stream stream_gives bytes b.0 c d at there (subst P (fits_once bytes a.0 b.0 a.1 b.1) a.2) b.2
 
 -- no words are not some words
@@ -72,47 +93,56 @@ bad_outline_once : (c d : Code) (at there : Place) → (c ≡ d) × (at ≡ ther
 bad_outline_once c d at there e = ap (λ x. BadOutline x at) e.0 ∙ ap (BadOutline d) e.1
 
 -- one verdict applies
-pub one_verdict : (n : ℕ) (bytes : List ℕ) (v w : Verdict) → IsVerdict n bytes v → IsVerdict n bytes w → v ≡ w
-one_verdict n bytes Misused Misused a b = refl
-one_verdict n bytes Misused TooLong a b = no_words n a b.0
-one_verdict n bytes Misused (BadToken d there) a b = no_words n a b.0
-one_verdict n bytes Misused (BadOutline d there) a b = no_words n a b.0
-one_verdict n bytes Misused (Accepted q) a b = no_words n a b.0
-one_verdict n bytes Misused NotBuilt a b = no_words n a b.0
-one_verdict n bytes TooLong Misused a b = no_words n b a.0
-one_verdict n bytes TooLong TooLong a b = refl
-one_verdict n bytes TooLong (BadToken d there) a b = not_within (length bytes) a.1 b.1
-one_verdict n bytes TooLong (BadOutline d there) a b = not_within (length bytes) a.1 b.1
-one_verdict n bytes TooLong (Accepted q) a b = not_within (length bytes) a.1 b.1
-one_verdict n bytes TooLong NotBuilt a b = not_within (length bytes) a.1 b.1
-one_verdict n bytes (BadToken c at) Misused a b = no_words n b a.0
-one_verdict n bytes (BadToken c at) TooLong a b = not_within (length bytes) b.1 a.1
-one_verdict n bytes (BadToken c at) (BadToken d there) a b = bad_token_once c d at there (refuses_once bytes c d at there a.2 b.2)
-one_verdict n bytes (BadToken c at) (BadOutline d there) a b = absurd (apart bytes b.2.0 c at b.2.1 a.2)
-one_verdict n bytes (BadToken c at) (Accepted q) a b = absurd (apart bytes b.2.0 c at b.2.2 a.2)
-one_verdict n bytes (BadToken c at) NotBuilt a b = absurd (apart bytes b.2.0 c at b.2.2 a.2)
-one_verdict n bytes (BadOutline c at) Misused a b = no_words n b a.0
-one_verdict n bytes (BadOutline c at) TooLong a b = not_within (length bytes) b.1 a.1
-one_verdict n bytes (BadOutline c at) (BadToken d there) a b = absurd (apart bytes a.2.0 d there a.2.1 b.2)
-one_verdict n bytes (BadOutline c at) (BadOutline d there) a b = bad_outline_once c d at there (lacks_once bytes c d at there a.2 b.2)
-one_verdict n bytes (BadOutline c at) (Accepted q) a b = absurd (has_lacks bytes (Some q) c at b.2 a.2)
-one_verdict n bytes (BadOutline c at) NotBuilt a b = absurd (has_lacks bytes None c at b.2 a.2)
-one_verdict n bytes (Accepted p) Misused a b = no_words n b a.0
-one_verdict n bytes (Accepted p) TooLong a b = not_within (length bytes) b.1 a.1
-one_verdict n bytes (Accepted p) (BadToken d there) a b = absurd (apart bytes a.2.0 d there a.2.2 b.2)
-one_verdict n bytes (Accepted p) (BadOutline d there) a b = absurd (has_lacks bytes (Some p) d there a.2 b.2)
-one_verdict n bytes (Accepted p) (Accepted q) a b = ap Accepted (asks_once bytes p q a.2 b.2)
-one_verdict n bytes (Accepted p) NotBuilt a b = not_both p (has_once bytes (Some p) None a.2 b.2)
-one_verdict n bytes NotBuilt Misused a b = no_words n b a.0
-one_verdict n bytes NotBuilt TooLong a b = not_within (length bytes) b.1 a.1
-one_verdict n bytes NotBuilt (BadToken d there) a b = absurd (apart bytes a.2.0 d there a.2.2 b.2)
-one_verdict n bytes NotBuilt (BadOutline d there) a b = absurd (has_lacks bytes None d there a.2 b.2)
-one_verdict n bytes NotBuilt (Accepted q) a b = not_both q (has_once bytes (Some q) None b.2 a.2)
-one_verdict n bytes NotBuilt NotBuilt a b = refl
+pub one_verdict : (n : ℕ) (library : Library) (bytes : List ℕ) (v w : Verdict) → IsVerdict n library bytes v → IsVerdict n library bytes w → v ≡ w
+one_verdict n library bytes Misused Misused a b = refl
+one_verdict n library bytes Misused TooLong a b = no_words n a b.0
+one_verdict n library bytes Misused (BadToken d there) a b = no_words n a b.0
+one_verdict n library bytes Misused (BadOutline d there) a b = no_words n a b.0
+one_verdict n library bytes Misused (BadProgram y) a b = no_words n a b.0
+one_verdict n library bytes Misused (Accepted q) a b = no_words n a b.0
+one_verdict n library bytes TooLong Misused a b = no_words n b a.0
+one_verdict n library bytes TooLong TooLong a b = refl
+one_verdict n library bytes TooLong (BadToken d there) a b = not_within (length bytes) a.1 b.1
+one_verdict n library bytes TooLong (BadOutline d there) a b = not_within (length bytes) a.1 b.1
+one_verdict n library bytes TooLong (BadProgram y) a b = not_within (length bytes) a.1 b.1
+one_verdict n library bytes TooLong (Accepted q) a b = not_within (length bytes) a.1 b.1
+one_verdict n library bytes (BadToken c at) Misused a b = no_words n b a.0
+one_verdict n library bytes (BadToken c at) TooLong a b = not_within (length bytes) b.1 a.1
+one_verdict n library bytes (BadToken c at) (BadToken d there) a b = bad_token_once c d at there (refuses_once bytes c d at there a.2 b.2)
+one_verdict n library bytes (BadToken c at) (BadOutline d there) a b = absurd (apart bytes b.2.0 c at b.2.1 a.2)
+one_verdict n library bytes (BadToken c at) (BadProgram y) a b = absurd (apart bytes b.2.0 c at b.2.2 a.2)
+one_verdict n library bytes (BadToken c at) (Accepted q) a b = absurd (apart bytes b.2.0 c at b.2.2 a.2)
+one_verdict n library bytes (BadOutline c at) Misused a b = no_words n b a.0
+one_verdict n library bytes (BadOutline c at) TooLong a b = not_within (length bytes) b.1 a.1
+one_verdict n library bytes (BadOutline c at) (BadToken d there) a b = absurd (apart bytes a.2.0 d there a.2.1 b.2)
+one_verdict n library bytes (BadOutline c at) (BadOutline d there) a b = bad_outline_once c d at there (lacks_once bytes c d at there a.2 b.2)
+one_verdict n library bytes (BadOutline c at) (BadProgram y) a b = asks_lacks library bytes (Err (Refuses y)) c at b.2 a.2
+one_verdict n library bytes (BadOutline c at) (Accepted q) a b = asks_lacks library bytes (Ok q) c at b.2 a.2
+one_verdict n library bytes (BadProgram x) Misused a b = no_words n b a.0
+one_verdict n library bytes (BadProgram x) TooLong a b = not_within (length bytes) b.1 a.1
+one_verdict n library bytes (BadProgram x) (BadToken d there) a b = absurd (apart bytes a.2.0 d there a.2.2 b.2)
+one_verdict n library bytes (BadProgram x) (BadOutline d there) a b = asks_lacks library bytes (Err (Refuses x)) d there a.2 b.2
+one_verdict n library bytes (BadProgram x) (BadProgram y) a b = ap BadProgram (refusal_once library bytes x y a.2 b.2)
+one_verdict n library bytes (BadProgram x) (Accepted q) a b = not_both library bytes q (Refuses x) b.2 a.2
+one_verdict n library bytes (Accepted p) Misused a b = no_words n b a.0
+one_verdict n library bytes (Accepted p) TooLong a b = not_within (length bytes) b.1 a.1
+one_verdict n library bytes (Accepted p) (BadToken d there) a b = absurd (apart bytes a.2.0 d there a.2.2 b.2)
+one_verdict n library bytes (Accepted p) (BadOutline d there) a b = asks_lacks library bytes (Ok p) d there a.2 b.2
+one_verdict n library bytes (Accepted p) (BadProgram y) a b = not_both library bytes p (Refuses y) a.2 b.2
+one_verdict n library bytes (Accepted p) (Accepted q) a b = ap Accepted (program_once library bytes p q a.2 b.2)
+
+-- what has a verdict comes to no name of which nothing is told
+pub told_once : (n : ℕ) (library : Library) (bytes : List ℕ) (v : Verdict) → IsVerdict n library bytes v → IsSilent n library bytes → ⊥
+told_once n library bytes Misused a b = no_words n a b.0
+told_once n library bytes TooLong a b = not_within (length bytes) a.1 b.1
+told_once n library bytes (BadToken c at) a b = apart bytes b.2.0 c at b.2.2 a.2
+told_once n library bytes (BadOutline c at) a b = asks_lacks library bytes (Err Silent) c at b.2 a.2
+told_once n library bytes (BadProgram x) a b = no_silent x (halted_once library bytes (Refuses x) Silent a.2 b.2)
+told_once n library bytes (Accepted p) a b = not_both library bytes p Silent a.2 b.2
 
 -- one text and one status are the report
-pub one_report : (n : ℕ) (bytes text other : List ℕ) (answer another : Status)
-    → IsReport n bytes text answer → IsReport n bytes other another → (text ≡ other) × (answer ≡ another)
-one_report n bytes text other answer another a b =
-    let same : a.verdict ≡ b.verdict = one_verdict n bytes a.verdict b.verdict a.applies b.applies in
+pub one_report : (n : ℕ) (library : Library) (bytes text other : List ℕ) (answer another : Status)
+    → IsReport n library bytes text answer → IsReport n library bytes other another → (text ≡ other) × (answer ≡ another)
+one_report n library bytes text other answer another a b =
+    let same : a.verdict ≡ b.verdict = one_verdict n library bytes a.verdict b.verdict a.applies b.applies in
     (a.says.text_is ∙ ap text_for same ∙ sym b.says.text_is, a.says.answer_is ∙ ap status_for same ∙ sym b.says.answer_is)

@@ -1,4 +1,5 @@
 pub mod Exit
 pub mod Lines
 pub mod Verdict
+pub mod Asked
 pub mod Runs

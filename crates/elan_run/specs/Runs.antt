@@ -1,12 +1,17 @@
--- What a run does to its source and its sink.
+-- What a run does to its source, its loaders and its sink.
 use Rattle.std.specs.Prelude.{◌≡◌, ◌⊎◌, ℕ, Option, Some, None, Result, Ok, Err, List, ◌++◌}
 use Rattle.elan_text.specs.Streams.{Appends, IsAtEnd, Rose}
 use Rattle.elan_text.specs.Whole.{AppendsPart}
+use Rattle.elan_loaders.specs.Libraries.{Library as Texts, SomeRose}
+use Rattle.elan_modules.specs.Visits.{Library}
+use Rattle.elan_modules.specs.Walks.{Shelf}
+use Rattle.elan_check.specs.declared.prepared.Prepared.{Prepared}
 use Rattle.elan_run.specs.declared.answer.Answer.{Answer}
+use Rattle.elan_run.specs.declared.answer.Unanswered.{Unanswered}
+use Rattle.elan_run.specs.declared.answer.Unanswered.TheVariants as unanswered
 use Rattle.elan_run.specs.declared.status.Status.{Status}
 use Rattle.elan_run.specs.declared.status.Status.TheVariants as status
-use Rattle.elan_prepare.specs.declared.prepared.Prepared.{Prepared}
-use Rattle.elan_run.specs.Verdict.{IsVerdict, IsReport, Accepted, text_for}
+use Rattle.elan_run.specs.Verdict.{IsVerdict, IsReport, IsReportFor, StandsFor, NeedsSome, Accepted, text_for}
 
 -- ---- what a run met and left
 
@@ -36,6 +41,10 @@ wrote before after faults faults_after =
 abbrev pub ReadFailed : Reading → Type 0
 ReadFailed r = Rose r.faults r.faults_after
 
+-- a loader's count of faults rose
+abbrev pub LoadFailed : Shelf → Shelf → Type 0
+LoadFailed s t = SomeRose s.failures t.failures
+
 -- the sink's count of faults rose
 abbrev pub WriteFailed : Writing → Type 0
 WriteFailed w = Rose w.faults w.faults_after
@@ -48,25 +57,34 @@ Told None bytes = Unit {0}
 Told (Some left) bytes = left ≡ bytes
 
 -- the whole text for what the source had left was written, and this is the answer to it
-pub record Answers (words : ℕ) (left before after : Option (List ℕ)) (answer : Status) : Type 0 where
+pub record Answers (words : ℕ) (left : Option (List ℕ)) (told : List (Option Texts)) (before after : Option (List ℕ))
+    (answer : Status) : Type 0 where
   pub bytes : List ℕ
   pub text : List ℕ
-  pub told : Told left bytes
-  pub report : IsReport words bytes text answer
+  pub is_left : Told left bytes
+  pub report : IsReportFor words told bytes text answer
   pub written : Appends before text after
 
 -- a prefix of the text for what the source had left was written that is not all of it
-pub record BreaksOff (words : ℕ) (left before after : Option (List ℕ)) : Type 0 where
+pub record BreaksOff (words : ℕ) (left : Option (List ℕ)) (told : List (Option Texts)) (before after : Option (List ℕ))
+    : Type 0 where
   pub bytes : List ℕ
   pub text : List ℕ
   pub answer : Status
-  pub told : Told left bytes
-  pub report : IsReport words bytes text answer
+  pub is_left : Told left bytes
+  pub report : IsReportFor words told bytes text answer
   pub written : AppendsPart before text after
+
+-- the source had a stream left that needs loaders
+pub record Needed (left : Option (List ℕ)) : Type 0 where
+  pub bytes : List ℕ
+  pub is_left : Told left bytes
+  pub needs : NeedsSome bytes
 
 -- the status is this one and the whole text was written, or memory was wanted and nothing was written
 abbrev pub Completes : Status → List ℕ → Option (List ℕ) → Option (List ℕ) → Status → Type 0
-Completes answer text before after result = ((result ≡ answer) × Appends before text after) ⊎ ((result ≡ status.NoMemory) × (after ≡ before))
+Completes answer text before after result =
+    ((result ≡ answer) × Appends before text after) ⊎ ((result ≡ status.NoMemory) × (after ≡ before))
 
 -- A run with this text that met no fault and was refused no memory has written exactly the text. Any other run has
 -- written a prefix of it.
@@ -80,34 +98,48 @@ Sends text answer w result =
     ((result ≡ answer) × Appends w.before text w.after)
     ⊎ ((result ≡ status.WriteFault) × WriteFailed w × AppendsPart w.before text w.after)
 
--- what was made is sent, or memory was wanted for it and nothing was written
-abbrev pub Finishes : {E : Type 0} → Writing → Result Answer E → Status → Type 0
+-- the status of a run that has no answer
+abbrev pub status_without : Unanswered → Status
+status_without unanswered.LoaderFault = status.LoaderFault
+status_without unanswered.NoMemory = status.NoMemory
+
+-- what was made is sent; or there was no answer, and nothing was written
+abbrev pub Finishes : Writing → Result Answer Unanswered → Status → Type 0
 Finishes w (Ok made) result = Sends made.text.items made.status w result
-Finishes w (Err e) result = (result ≡ status.NoMemory) × (w.after ≡ w.before)
+Finishes w (Err why) result = (result ≡ status_without why) × (w.after ≡ w.before)
+
+-- why there is no answer: a loader failed and the stream needs loaders, or memory was wanted
+abbrev pub IsWhy : List ℕ → Shelf → Shelf → Unanswered → Type 0
+IsWhy bytes s t unanswered.LoaderFault = LoadFailed s t × NeedsSome bytes
+IsWhy bytes s t unanswered.NoMemory = Unit {0}
 
 -- ---- a whole run with so many words
 
-module _ (words : ℕ) (r : Reading) (w : Writing) where
+module _ (words : ℕ) (r : Reading) (s t : Shelf) (w : Writing) where
   -- What a run leaves, by its status: for `Done`, `Usage` and `Refused` the whole text that goes with it, for what the
-  -- source had left; for a fault its cause; and for a fault of the source and want of memory nothing is written.
+  -- source had left; for a fault its cause; and for a fault of the source, a fault of a loader and want of memory nothing
+  -- is written.
   abbrev pub Leaves : Status → Type 0
-  Leaves status.Done = Answers words r.left w.before w.after status.Done × IsAtEnd r.past
-  Leaves status.Usage = Answers words r.left w.before w.after status.Usage
-  Leaves (status.Refused code) = Answers words r.left w.before w.after (status.Refused code)
+  Leaves status.Done = Answers words r.left s.told w.before w.after status.Done × IsAtEnd r.past
+  Leaves status.Usage = Answers words r.left s.told w.before w.after status.Usage
+  Leaves (status.Refused code) = Answers words r.left s.told w.before w.after (status.Refused code)
   Leaves status.ReadFault = (words ≡ 0) × ReadFailed r × (w.after ≡ w.before)
-  Leaves status.WriteFault = WriteFailed w × BreaksOff words r.left w.before w.after
+  Leaves status.WriteFault = WriteFailed w × BreaksOff words r.left s.told w.before w.after
+  Leaves status.LoaderFault = (words ≡ 0) × LoadFailed s t × Needed r.left × (w.after ≡ w.before)
   Leaves status.NoMemory = (words ≡ 0) × (w.after ≡ w.before)
 
-  -- Where the input is accepted, a run that met no fault and was refused no memory wrote exactly its report, and any
-  -- other run wrote a prefix of it.
+  -- Where the input is accepted, over a library that may be taken for the loaders, a run that met no fault and was refused
+  -- no memory wrote exactly its report, and any other run wrote a prefix of it.
   abbrev pub MeetsHeadline : Status → Type 0
   MeetsHeadline result =
-      (bytes : List ℕ) (p : Prepared) → IsVerdict words bytes (Accepted p) → r.left ≡ Some bytes
-      → Headline (text_for (Accepted p)) w.before w.after (ReadFailed r ⊎ WriteFailed w) result
+      (bytes : List ℕ) (library : Library) (p : Prepared) → r.left ≡ Some bytes → StandsFor s.told bytes library
+      → IsVerdict words library bytes (Accepted p)
+      → Headline (text_for (Accepted p)) w.before w.after (ReadFailed r ⊎ (LoadFailed s t ⊎ WriteFailed w)) result
 
-  -- For every input: where no count of faults rose, the whole text was written and the status is that of the input, or
-  -- memory was wanted and nothing was written.
+  -- For every input, over a library that may be taken for the loaders: where no count of faults rose, the whole text was
+  -- written and the status is that of the input, or memory was wanted and nothing was written.
   abbrev pub IsComplete : Status → Type 0
   IsComplete result =
-      (bytes text : List ℕ) (answer : Status) → IsReport words bytes text answer → r.left ≡ Some bytes
-      → (ReadFailed r → ⊥) → (WriteFailed w → ⊥) → Completes answer text w.before w.after result
+      (bytes : List ℕ) (library : Library) (text : List ℕ) (answer : Status) → r.left ≡ Some bytes
+      → StandsFor s.told bytes library → IsReport words library bytes text answer
+      → (ReadFailed r → ⊥) → (LoadFailed s t → ⊥) → (WriteFailed w → ⊥) → Completes answer text w.before w.after result

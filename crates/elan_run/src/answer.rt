@@ -1,21 +1,26 @@
 //! The text and the status for the bytes of an input.
 
-ghost use Rattle.std.specs.Prelude.{◌≡◌, ◌≤◌, ◌<◌, ◌^◌, length, IfOk, IfErr, MatchOption};
+ghost use Rattle.std.specs.Prelude.{◌≡◌, ◌≤◌, ◌<◌, ◌^◌, length, IfOk, IfErr, map};
 ghost use Rattle.std.specs.List.{All};
+ghost use Rattle.elan_check.specs.Validity.{IsPrepared};
 ghost use Rattle.elan_lexer.specs.Text.{Fits, IsInside};
-ghost use Rattle.elan_prepare.specs.Words.{words_of};
-ghost use Rattle.elan_prepare.specs.Prepared as asking;
-ghost use Rattle.elan_text.specs.declared.refusal.Stop.TheVariants.{NoMemory as OutOfMemory};
+ghost use Rattle.elan_modules.specs.Walks.{shelf, Moved, Untouched};
 ghost use Rattle.elan_run.specs.Verdict as spec;
-ghost use Rattle.elan_run.specs.Verdict.{Asks, AsksNothing, IsLack, IsReport, Says, TooLong, BadToken, BadOutline, Accepted, NotBuilt};
+ghost use Rattle.elan_run.specs.Verdict.{IsReportFor, NeedsNone, Says, TooLong, BadToken, BadOutline, BadProgram, Accepted};
+ghost use Rattle.elan_run.specs.Asked.{IsTold};
+ghost use Rattle.elan_run.specs.Runs.{IsWhy};
+ghost use Rattle.elan_run.specs.declared.answer.Unanswered.TheVariants.{NoMemory as WantsMemory};
 
 use crate::lines::{refusal_line, report};
+use crate::program::asked;
 use crate::status::Status;
+use elan_check::Prepared;
 use elan_lexer::{Token, tokens};
+use elan_loaders::Loader;
+use elan_modules::FlattenRefusal;
 use elan_plain::plain_items;
-use elan_prepare::{Prepared, prepare};
-use elan_syntax::{Outline, outline};
-use elan_text::{Code, NoMemory, Place, Stop};
+use elan_syntax::outline;
+use elan_text::{Code, NoMemory, Place, Refusal, Stop};
 use std::alloc::{AllocError, Global};
 
 /// How many items are written at most.
@@ -31,6 +36,23 @@ pub struct Answer {
     pub status: Status,
 }
 
+/// Why there is no text to be written.
+#[derive(Clone, Copy, Debug, PartialEq, Eq)]
+pub enum Unanswered {
+    /// A loader failed.
+    LoaderFault,
+    /// The machine had no memory to give.
+    NoMemory,
+}
+
+impl From<AllocError> for Unanswered {
+    ghost from_gives = { λ _ e. e ≡ WantsMemory };
+
+    fn from(_: AllocError) -> Unanswered {
+        Unanswered::NoMemory
+    }
+}
+
 /// The place of the first byte.
 fn first_place() -> Place
     ensures { result ≡ spec.first_place }
@@ -38,7 +60,7 @@ fn first_place() -> Place
     Place { line: 1, column: 1 }
 }
 
-/// The line of a refusal, and its status.
+/// The line of a refusal of the stream, and its status.
 fn refused(alloc: Global, code: Code, at: Place) -> Result<Answer, NoMemory>
     ensures { IfOk result (λ a. Says (BadToken code at) a.text.items a.status) }
 {
@@ -49,10 +71,11 @@ fn refused(alloc: Global, code: Code, at: Place) -> Result<Answer, NoMemory>
 }
 
 /// The answer to an input that is too long.
-pub fn too_long(alloc: Global) -> Result<Answer, NoMemory>
-    ensures { IfOk result (λ a. Says TooLong a.text.items a.status) }
+pub fn too_long(alloc: Global) -> Result<Answer, Unanswered>
+    ensures ok { IfOk result (λ a. Says TooLong a.text.items a.status) }
+    ensures err { IfErr result (λ e. e ≡ WantsMemory) }
 {
-    refused(alloc, Code::E01, first_place())
+    Ok(refused(alloc, Code::E01, first_place())?)
 }
 
 /// The line of a refusal of an outline, and its status.
@@ -65,10 +88,14 @@ fn unread(alloc: Global, code: Code, at: Place) -> Result<Answer, NoMemory>
     })
 }
 
-fn not_built(alloc: Global) -> Result<Answer, NoMemory>
-    ensures { IfOk result (λ a. Says NotBuilt a.text.items a.status) }
+/// The line of a refusal of a program, and its status.
+fn refused_program(alloc: Global, refusal: &Refusal) -> Result<Answer, NoMemory>
+    ensures { IfOk result (λ a. Says (BadProgram refusal.now) a.text.items a.status) }
 {
-    refused(alloc, Code::E99, first_place())
+    Ok(Answer {
+        text: elan_print::refusal_line(alloc, refusal)?,
+        status: Status::Refused(refusal.code),
+    })
 }
 
 /// The report of what is asked.
@@ -88,53 +115,74 @@ fn accepted(alloc: Global, prepared: &Prepared) -> Result<Answer, NoMemory>
     })
 }
 
-/// What the text with these tokens asks, where it is a stream of the first form in which each text has a reading; or the
-/// refusal of its outline.
-fn asked(alloc: Global, bytes: &[u8], found: &[Token]) -> Result<Option<Prepared>, Stop>
-    requires bytes { length bytes.now ≤ 4194304 }
-    requires fits { Fits bytes.now found.now }
-    requires inside { All (IsInside bytes.now) found.now }
-    requires count { length found.now < 2 ^ 32 }
-    ensures found { IfOk result (λ p. MatchOption p (AsksNothing bytes.now) (Asks bytes.now)) }
-    ensures refused { IfErr result (λ e. IsLack bytes.now e) }
+/// The text and the status for what a stream asks.
+fn told(alloc: Global, found: Result<Prepared, FlattenRefusal>) -> Result<Answer, Unanswered>
+    ensures { IsTold found result }
 {
-    match outline(alloc, bytes, found) {
-        Ok(outline) => asked_of(alloc, bytes, found, &outline),
-        Err(stop) => Err(stop),
+    match found {
+        Ok(prepared) => Ok(accepted(alloc, &prepared)?),
+        Err(FlattenRefusal::Refused(refusal)) => Ok(refused_program(alloc, &refusal)?),
+        Err(FlattenRefusal::LoaderFault) => Err(Unanswered::LoaderFault),
+        Err(FlattenRefusal::NoMemory) => Err(Unanswered::NoMemory),
     }
 }
 
-/// What the text with these tokens and this outline asks, where it is of the first form.
-fn asked_of(
+/// The text and the status for an input with these tokens.
+fn answered_of(
     alloc: Global,
     bytes: &[u8],
     found: &[Token],
-    outline: &Outline,
-) -> Result<Option<Prepared>, Stop>
-    requires { All (IsInside bytes.now) found.now }
-    ensures ok { IfOk result (λ p. p ≡ asking.prepared (words_of bytes.now found.now) outline.now) }
-    ensures err { IfErr result (λ e. e ≡ OutOfMemory) }
+    loaders: &mut Vec<Box<dyn Loader>>,
+) -> Result<Answer, Unanswered>
+    requires within { length bytes.now ≤ 4194304 }
+    requires fits { Fits bytes.now found.now }
+    requires inside { All (IsInside bytes.now) found.now }
+    requires count { length found.now < 2 ^ 32 }
+    ensures report { IfOk result (λ a. IsReportFor 0 (map (λ l. library l) loaders.old.items)
+        bytes.now a.text.items a.status) }
+    ensures why { IfErr result (λ e. IsWhy bytes.now
+        (shelf (λ l. library l) (λ l. misses l) (λ l. failures l) loaders.old.items)
+        (shelf (λ l. library l) (λ l. misses l) (λ l. failures l) loaders.new.items) e) }
+    // What becomes of the loaders.
+    ensures moved { Moved
+        (shelf (λ l. library l) (λ l. misses l) (λ l. failures l) loaders.old.items)
+        (shelf (λ l. library l) (λ l. misses l) (λ l. failures l) loaders.new.items) }
+    ensures untouched { NeedsNone bytes.now
+        → Untouched
+        (shelf (λ l. library l) (λ l. misses l) (λ l. failures l) loaders.old.items)
+        (shelf (λ l. library l) (λ l. misses l) (λ l. failures l) loaders.new.items) }
 {
-    match prepare(alloc, bytes, found, outline) {
-        Ok(asked) => Ok(asked),
-        Err(_) => Err(Stop::NoMemory),
+    match outline(alloc, bytes, found) {
+        Ok(outline) => told(alloc, asked(alloc, bytes, found, outline, loaders)),
+        Err(Stop::Refused(refusal)) => Ok(unread(alloc, refusal.code, refusal.at)?),
+        Err(Stop::NoMemory) => Err(Unanswered::NoMemory),
     }
 }
 
 /// The text and the status for an input that is not too long.
-pub fn answered(alloc: Global, bytes: &[u8]) -> Result<Answer, NoMemory>
+pub fn answered(
+    alloc: Global,
+    bytes: &[u8],
+    loaders: &mut Vec<Box<dyn Loader>>,
+) -> Result<Answer, Unanswered>
     requires { length bytes.now ≤ 4194304 }
-    ensures { IfOk result (λ a. IsReport 0 bytes.now a.text.items a.status) }
+    ensures report { IfOk result (λ a. IsReportFor 0 (map (λ l. library l) loaders.old.items)
+        bytes.now a.text.items a.status) }
+    ensures why { IfErr result (λ e. IsWhy bytes.now
+        (shelf (λ l. library l) (λ l. misses l) (λ l. failures l) loaders.old.items)
+        (shelf (λ l. library l) (λ l. misses l) (λ l. failures l) loaders.new.items) e) }
+    // What becomes of the loaders.
+    ensures moved { Moved
+        (shelf (λ l. library l) (λ l. misses l) (λ l. failures l) loaders.old.items)
+        (shelf (λ l. library l) (λ l. misses l) (λ l. failures l) loaders.new.items) }
+    ensures untouched { NeedsNone bytes.now
+        → Untouched
+        (shelf (λ l. library l) (λ l. misses l) (λ l. failures l) loaders.old.items)
+        (shelf (λ l. library l) (λ l. misses l) (λ l. failures l) loaders.new.items) }
 {
-    let found = match tokens(alloc, bytes) {
-        Ok(found) => found,
-        Err(Stop::Refused(refusal)) => return refused(alloc, refusal.code, refusal.at),
-        Err(Stop::NoMemory) => return Err(AllocError),
-    };
-    match asked(alloc, bytes, found.as_slice()) {
-        Ok(Some(prepared)) => accepted(alloc, &prepared),
-        Ok(None) => not_built(alloc),
-        Err(Stop::Refused(refusal)) => unread(alloc, refusal.code, refusal.at),
-        Err(Stop::NoMemory) => Err(AllocError),
+    match tokens(alloc, bytes) {
+        Ok(found) => answered_of(alloc, bytes, found.as_slice(), loaders),
+        Err(Stop::Refused(refusal)) => Ok(refused(alloc, refusal.code, refusal.at)?),
+        Err(Stop::NoMemory) => Err(Unanswered::NoMemory),
     }
 }

@@ -1,17 +1,26 @@
 //! What holds of every input. Each law is the contract of a call that does nothing.
 
-ghost use Rattle.std.specs.Prelude.{◌≡◌, ℕ, List};
+ghost use Rattle.std.specs.Prelude.{◌≡◌, ◌≢◌, ℕ, List, Option};
+ghost use Rattle.elan_loaders.specs.Libraries.{Library as Texts, Untold, first_told};
+ghost use Rattle.elan_modules.specs.Flattens.{AllTold};
+ghost use Rattle.elan_modules.specs.Visits.{Library};
 ghost use Rattle.elan_run.specs.declared.status.Status.{Status as StatusValue};
 ghost use Rattle.elan_run.specs.Verdict.{IsReport};
 
-/// Words and an input have no two reports: one text and one status are right.
+/// Words and an input have no two reports over a library: one text and one status are right.
 pub fn one_report()
-    ensures { (words : ℕ) (bytes text other : List ℕ) (answer another : StatusValue) →
-        IsReport words bytes text answer → IsReport words bytes other another → (text ≡ other) × (answer ≡ another) }
+    ensures { (words : ℕ) (library : Library) (bytes text other : List ℕ) (answer another : StatusValue)
+        → IsReport words library bytes text answer → IsReport words library bytes other another
+        → (text ≡ other) × (answer ≡ another) }
 {}
 
-/// Words and an input have a report.
+/// Words and an input have a report over a library that tells of each name that it has a text or
+/// none; so they have one where each loader tells its library.
 pub fn some_report()
-    ensures { (words : ℕ) (bytes : List ℕ)
-        → (text : List ℕ) × (answer : StatusValue) × IsReport words bytes text answer }
+    ensures library { (words : ℕ) (library : Library) → ((name : List ℕ) → library name ≢ Untold)
+        → (bytes : List ℕ)
+        → (text : List ℕ) × (answer : StatusValue) × IsReport words library bytes text answer }
+    ensures told { (words : ℕ) (told : List (Option Texts)) → AllTold told → (bytes : List ℕ)
+        → (text : List ℕ) × (answer : StatusValue)
+        × IsReport words (first_told told) bytes text answer }
 {}

@@ -4,10 +4,9 @@
 mod answer;
 pub mod laws;
 mod lines;
+mod program;
 mod run;
 mod status;
-#[cfg(test)]
-mod tests;
 
 pub use run::run_plain;
 pub use status::Status;

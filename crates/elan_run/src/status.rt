@@ -18,6 +18,8 @@ pub enum Status {
     WriteFault,
     /// The input was refused with this code, and the line that says so was written.
     Refused(Code),
+    /// A loader failed; nothing was written.
+    LoaderFault,
     /// The machine had no memory to give; nothing was written.
     NoMemory,
 }
@@ -33,6 +35,7 @@ impl Status {
             Status::ReadFault => 3,
             Status::WriteFault => 4,
             Status::Refused(_) => 5,
+            Status::LoaderFault => 6,
             Status::NoMemory => 7,
         }
     }

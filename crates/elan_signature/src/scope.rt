@@ -28,7 +28,13 @@ pub(crate) struct Scope<'a> {
 }
 
 impl<'a> Model for Scope<'a> {
+    ghost use Rattle.elan_signature.specs.Declarations as spec;
+    ghost use Rattle.elan_phrases.specs.contracts.plan.Plan as plan;
+    ghost use Rattle.std.specs.Coded.{codes};
+
     ghost Value = { spec.Scope };
+
+    ghost coded = { Prim.hlevel (codes, plan.the_row.coded) };
 
     ghost view = { λ c. record {
       text = c.text.now;
@@ -52,7 +58,13 @@ pub(crate) struct World<'a> {
 }
 
 impl<'a> Model for World<'a> {
+    ghost use Rattle.elan_signature.specs.Declarations as spec;
+    ghost use Rattle.elan_phrases.specs.contracts.plan.Plan as plan;
+    ghost use Rattle.std.specs.Coded.{codes};
+
     ghost Value = { spec.World };
+
+    ghost coded = { Prim.hlevel (codes, plan.the_row.coded) };
 
     ghost view = { λ w. record {
       texts = w.texts.now;

@@ -38,7 +38,7 @@ fn flat(
     let outline = outline(alloc, text.as_slice(), found.as_slice())
         .ok()
         .ok_or("there is an outline")?;
-    let flat = flatten(alloc, text.as_slice(), found.as_slice(), &outline, loaders)
+    let flat = flatten(alloc, text.as_slice(), found.as_slice(), outline, loaders)
         .ok()
         .ok_or("the program is flattened")?;
     Ok(flat)

@@ -46,7 +46,7 @@ fn flat(
     let outline = outline(alloc, text.as_slice(), found.as_slice())
         .ok()
         .ok_or("there is an outline")?;
-    Ok(flatten(alloc, text.as_slice(), found.as_slice(), &outline, loaders))
+    Ok(flatten(alloc, text.as_slice(), found.as_slice(), outline, loaders))
 }
 
 /// An instance as `name[args]`, and behind it the numbers of its text and its module.

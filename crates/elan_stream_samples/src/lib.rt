@@ -8,10 +8,6 @@ mod flattening;
 #[cfg(test)]
 mod loaders;
 #[cfg(test)]
-mod numbered;
-#[cfg(test)]
-mod outlines;
-#[cfg(test)]
 mod phrases;
 #[cfg(test)]
 mod tokens;

@@ -7,14 +7,14 @@ use Rattle.elan_phrases.specs.declared.span.Span.{Span}
 use Rattle.elan_phrases.specs.declared.symbol.Symbol.{Symbol}
 use Rattle.elan_phrases.specs.declared.symbol.Symbol.TheVariants.{Module, Import, Sort, Operators, Rules, Strategies, For, Where, If, End, Arrow, Becomes, Comma, Semicolon, Colon, LeftRound, RightRound, LeftSquare, RightSquare, Pri, Ac, AssocLeft, Implicit, Name}
 use Rattle.elan_phrases.specs.declared.symbol.Importer.TheVariants.{AModule}
-use Rattle.elan_phrases.specs.Symbols.{Seen, same_symbol, one, a, names, labels, plain_steps, choices, visibilities, spelled, associativities, in_text}
+use Rattle.elan_phrases.specs.Symbols.{Seen, same_symbol, one, a, names, labels, choices, visibilities, spelled, associativities, in_text}
 use Rattle.elan_phrases.specs.Beginnings.{begins_another_name, begins_imported, begins_declared, begins_ruled, begins_clause, begins_mark, begins_defined, begins_section}
 use Rattle.elan_phrases.specs.Tokens.{taken, sign, number_of, span, name, visibility}
 use Rattle.elan_phrases.proofs.SymbolSets.{separate, within}
 use Rattle.elan_phrases.proofs.ExactTokens.{kind, sign_takes, taken_takes, number_takes, span_takes, name_number_takes, visibility_takes, small_number_takes, fresh_takes}
 use Rattle.elan_phrases.proofs.ExactTexts.{text_takes}
 use Rattle.elan_phrases.proofs.ExactSorts.{sort_span_takes, more_sorts_may, references_takes, closing_arguments_stands}
-use Rattle.elan_phrases.proofs.ExactStrategies.{strategy_span_takes, some_strategy_may}
+use Rattle.elan_phrases.proofs.ExactStrategies.{strategy_plan_takes, some_strategy_may}
 use Rattle.elan_syntax.specs.declared.parts.Section.{Section}
 use Rattle.elan_syntax.specs.declared.parts.OpDecl.{OpDecl}
 use Rattle.elan_syntax.specs.declared.parts.Vars.{Vars}
@@ -223,7 +223,7 @@ module _ (m : ℕ) where
   -- ---- rules
 
   where_clause_takes : Takes kind m (one Where) in_text where_clause
-  unfolding where_clause same_symbol in_text plain_steps labels names choices
+  unfolding where_clause same_symbol in_text labels names choices
   where_clause_takes =
       then_next (sign_takes m Where) (λ _.
       so (then_stands (text_takes m) (λ left.
@@ -379,7 +379,7 @@ module _ (m : ℕ) where
       so (then_next (number_takes m labels Name refl) (λ name.
       may_then_stands some_formals_may (λ parameters.
       so (then_next (sign_takes m Arrow) (λ _.
-      so (then_stands (strategy_span_takes m) (λ by. so (then_last (sign_takes m End) (λ _. may_pure)))
+      so (then_stands (strategy_plan_takes m) (λ by. so (then_last (sign_takes m End) (λ _. may_pure)))
       (separate refl)))))
       (separate refl))))
 

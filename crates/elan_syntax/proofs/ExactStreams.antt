@@ -9,7 +9,7 @@ use Rattle.elan_forms.proofs.Takes.{Takes, Stands, May, none, both, so, may_pure
 use Rattle.elan_phrases.specs.declared.symbol.Symbol.{Symbol}
 use Rattle.elan_phrases.specs.declared.symbol.Symbol.TheVariants.{Module, Import, Sort, End, Lpl, LeftRound, RightRound, LeftSquare, Description, Query, Of, Result, Start, With}
 use Rattle.elan_phrases.specs.declared.symbol.Importer.TheVariants.{AnLplText}
-use Rattle.elan_phrases.specs.Symbols.{Seen, same_symbol, one, a, names, labels, plain_steps, choices, imported, in_text, word_symbol, is_unreserved, the_name}
+use Rattle.elan_phrases.specs.Symbols.{Seen, same_symbol, one, a, names, labels, choices, imported, in_text, word_symbol, is_unreserved, the_name}
 use Rattle.elan_phrases.specs.Tokens.{number_of}
 use Rattle.elan_phrases.proofs.SymbolSets.{separate}
 use Rattle.elan_phrases.proofs.ExactTokens.{kind, sign_takes, name_takes, narrow_takes}
@@ -37,7 +37,7 @@ module _ (m : ℕ) where
       so (then_next (sign_takes m Sort) (λ _. so (sort_span_takes m))))))
 
   start_with_takes : Takes kind m (one Start) none start_with
-  unfolding start_with same_symbol plain_steps labels names choices
+  unfolding start_with same_symbol labels names choices
   start_with_takes =
       then_next (sign_takes m Start) (λ _.
       so (then_next (sign_takes m With) (λ _.

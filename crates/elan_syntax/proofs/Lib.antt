@@ -5,3 +5,4 @@ pub mod Turns
 pub mod SortWords
 pub mod PlainRules
 pub mod PlainStrategies
+pub mod FreshNames

@@ -3,6 +3,7 @@ use Rattle.std.specs.Prelude.{ℕ, List, [], ◌∷◌, ◌++◌, Bool, Option, 
 use Rattle.elan_forms.specs.Form.{◌>>=◌, ◌>>◌, token, pure, place, either, optional, loop, spanned, whole}
 use Rattle.elan_text.specs.declared.name.Name.{Name}
 use Rattle.elan_phrases.specs.declared.span.Span.{Span}
+use Rattle.elan_phrases.specs.declared.plan.Planned.{Planned}
 use Rattle.elan_phrases.specs.declared.symbol.Symbol.{Symbol}
 use Rattle.elan_phrases.specs.declared.symbol.Symbol.TheVariants.{Module, Import, Sort, Operators, Rules, Strategies, For, Where, If, End, Lpl, Arrow, Becomes, Comma, Semicolon, Colon, LeftRound, RightRound, LeftSquare, RightSquare, Pri, Ac, Description, Query, Of, Result, Start, With}
 use Rattle.elan_phrases.specs.declared.symbol.Importer.TheVariants.{AModule, AnLplText}
@@ -11,7 +12,7 @@ use Rattle.elan_phrases.specs.Beginnings.{begins_another_name, begins_imported, 
 use Rattle.elan_phrases.specs.Tokens.{Rule, taken, sign, number_of, span, span_of, name, visibility}
 use Rattle.elan_phrases.specs.Texts.{text}
 use Rattle.elan_phrases.specs.SortExpressions.{closing_arguments, sort_span, more_sorts, references}
-use Rattle.elan_phrases.specs.Strategies.{strategy_span, some_strategy}
+use Rattle.elan_phrases.specs.Strategies.{strategy_plan, some_strategy}
 use Rattle.elan_syntax.specs.declared.parts.Outline.{Outline}
 use Rattle.elan_syntax.specs.declared.parts.ModuleOutline.{ModuleOutline}
 use Rattle.elan_syntax.specs.declared.parts.Section.{Section}
@@ -340,7 +341,7 @@ definition_behind at = do
   name ← number_of (a labels)
   parameters ← some_formals
   sign Arrow
-  by ← strategy_span
+  by ← strategy_plan
   sign End
   pure (record { at = at; name = name; parameters = parameters; by = by })
 
@@ -482,7 +483,7 @@ sort_of word = do
   sort_span
 
 -- "start" "with" "(" [ strategy ] ")"
-unfoldable pub start_with : Rule (Option Span)
+unfoldable pub start_with : Rule (Option Planned)
 start_with = do
   sign Start
   sign With

@@ -17,7 +17,7 @@ pub fn more_clauses(alloc: Global, reader: &mut Reader<'_>) -> Result<Items<Clau
 {
     let mut found = Items::new(alloc);
     'clauses: while reader.sees_clause() {
-        let next = clause(reader)?;
+        let next = clause(alloc, reader)?;
         found = pushed(found, next)?;
     }
     Ok(found)
@@ -25,12 +25,12 @@ pub fn more_clauses(alloc: Global, reader: &mut Reader<'_>) -> Result<Items<Clau
 
 /// Takes a clause.
 #[tactic(auto, unfolding(crate::specs::Grammar::clause_rule, crate::specs::Grammar::where_clause))]
-fn clause(reader: &mut Reader<'_>) -> Result<ClauseOutline, Halt>
+fn clause(alloc: Global, reader: &mut Reader<'_>) -> Result<ClauseOutline, Halt>
     ensures read { Reads grammar.clause_rule reader.old result reader.new }
     ensures shorter { IfOk result (λ _. length reader.new.rest < length reader.old.rest) }
 {
     if reader.sees(Symbol::Where) {
-        where_clause(reader)
+        where_clause(alloc, reader)
     } else {
         if_clause(reader)
     }
@@ -38,7 +38,7 @@ fn clause(reader: &mut Reader<'_>) -> Result<ClauseOutline, Halt>
 
 /// Takes a clause that begins with `where`.
 #[tactic(auto, unfolding(crate::specs::Grammar::where_clause))]
-fn where_clause(reader: &mut Reader<'_>) -> Result<ClauseOutline, Halt>
+fn where_clause(alloc: Global, reader: &mut Reader<'_>) -> Result<ClauseOutline, Halt>
     ensures read { Reads grammar.where_clause reader.old result reader.new }
     ensures shorter { IfOk result (λ _. length reader.new.rest < length reader.old.rest) }
 {
@@ -46,7 +46,7 @@ fn where_clause(reader: &mut Reader<'_>) -> Result<ClauseOutline, Halt>
     let left = text(reader)?;
     reader.sign(Symbol::Becomes)?;
     reader.sign(Symbol::LeftRound)?;
-    let by = some_strategy(reader)?;
+    let by = some_strategy(alloc, reader)?;
     reader.sign(Symbol::RightRound)?;
     let of = text(reader)?;
     Ok(ClauseOutline::Where { left, by, of })

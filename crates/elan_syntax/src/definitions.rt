@@ -6,7 +6,7 @@ ghost use Rattle.elan_syntax.specs.Grammar as grammar;
 
 use crate::parts::{Definition, Section};
 use crate::rules::bracket;
-use elan_phrases::{Halt, Reader, Span, Symbol, closing_arguments, pushed, strategy_span};
+use elan_phrases::{Halt, Reader, Span, Symbol, closing_arguments, pushed, strategy_plan};
 use sqlite_items::Items;
 use std::alloc::Global;
 
@@ -196,7 +196,7 @@ fn definition_behind(alloc: Global, reader: &mut Reader<'_>, at: u32) -> Result<
     let name = reader.number(fits)?;
     let parameters = some_formals(alloc, reader)?;
     reader.sign(Symbol::Arrow)?;
-    let by = strategy_span(reader)?;
+    let by = strategy_plan(alloc, reader)?;
     reader.sign(Symbol::End)?;
     Ok(Definition {
         at,

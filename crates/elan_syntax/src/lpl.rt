@@ -5,7 +5,9 @@ ghost use Rattle.elan_phrases.specs.Input.{Reads};
 ghost use Rattle.elan_syntax.specs.Grammar as grammar;
 
 use crate::parts::LplOutline;
-use elan_phrases::{Halt, Importer, Reader, Span, Symbol, references, some_strategy, sort_span};
+use elan_phrases::{
+    Halt, Importer, Planned, Reader, Span, Symbol, references, some_strategy, sort_span,
+};
 use sqlite_items::Items;
 use std::alloc::Global;
 
@@ -21,7 +23,7 @@ pub fn lpl(alloc: Global, reader: &mut Reader<'_>) -> Result<LplOutline, Halt>
     let query_sort = sort_of(reader, Symbol::Query)?;
     let result_sort = sort_of(reader, Symbol::Result)?;
     let imports = lpl_imports(alloc, reader)?;
-    let start = start_with(reader)?;
+    let start = start_with(alloc, reader)?;
     reader.sign(Symbol::Query)?;
     reader.sign(Symbol::End)?;
     Ok(LplOutline {
@@ -56,14 +58,14 @@ fn lpl_imports(alloc: Global, reader: &mut Reader<'_>) -> Result<Items<Span>, Ha
 
 /// Takes the start strategy with `start with` and its parentheses.
 #[tactic(auto, unfolding(crate::specs::Grammar::start_with))]
-fn start_with(reader: &mut Reader<'_>) -> Result<Option<Span>, Halt>
+fn start_with(alloc: Global, reader: &mut Reader<'_>) -> Result<Option<Planned>, Halt>
     ensures read { Reads grammar.start_with reader.old result reader.new }
     ensures shorter { IfOk result (λ _. length reader.new.rest < length reader.old.rest) }
 {
     reader.sign(Symbol::Start)?;
     reader.sign(Symbol::With)?;
     reader.sign(Symbol::LeftRound)?;
-    let start = some_strategy(reader)?;
+    let start = some_strategy(alloc, reader)?;
     reader.sign(Symbol::RightRound)?;
     Ok(start)
 }

@@ -1,9 +1,12 @@
 //! Parameters of modules, which differ.
 
-ghost use Rattle.std.specs.Prelude.{◌≡◌, ◌<◌, ◌≤◌, length, IfOk};
-ghost use Rattle.elan_phrases.specs.Input.{Reads};
+ghost use Rattle.std.specs.Prelude.{◌≡◌, ◌<◌, ◌≤◌, length, false, IfOk, IfErr};
+ghost use Rattle.elan_numbers.specs.Numbering.{with_name};
+ghost use Rattle.elan_phrases.specs.Input.{Reads, is_misfit, next_text, sees};
+ghost use Rattle.elan_phrases.specs.Symbols.{fresh};
 ghost use Rattle.elan_syntax.specs.Grammar as grammar;
 
+use elan_numbers::Numbers;
 use elan_phrases::{Halt, Reader, Symbol, pushed};
 use elan_text::Name;
 use sqlite_items::Items;
@@ -15,7 +18,7 @@ pub struct Parameters {
     /// Their tokens.
     pub numbers: Items<u32>,
     /// Their bytes, in the same order.
-    pub names: Items<Name>,
+    pub names: Numbers,
 }
 
 /// Takes the parameters of a module, where it has some.
@@ -40,7 +43,7 @@ fn parameter_list(alloc: Global, reader: &mut Reader<'_>) -> Result<Items<u32>, 
     reader.sign(Symbol::LeftSquare)?;
     let none = Parameters {
         numbers: Items::new(alloc),
-        names: Items::new(alloc),
+        names: Numbers::new(alloc),
     };
     let first = parameter(alloc, reader, none)?;
     let Parameters { numbers, names: _ } = more_parameters(alloc, reader, first)?;
@@ -66,17 +69,37 @@ fn more_parameters(
     Ok(taken)
 }
 
+/// Whether the next token, which has these bytes, is a name that is none of those taken.
+fn is_fresh(reader: &Reader<'_>, word: &Name, taken: &Numbers) -> bool
+    requires { word.now.bytes ≡ next_text reader.now.rest }
+    ensures { result ≡ sees (fresh taken.now) reader.now }
+{
+    reader.sees_name() && taken.number_of(word.as_bytes()).is_none()
+}
+
+/// The names with one more, unless it is there.
+fn added(alloc: Global, taken: Numbers, word: &Name) -> Result<Numbers, Halt>
+    ensures ok { IfOk result (λ all. all ≡ with_name taken word.now.bytes) }
+    ensures err { IfErr result (λ halt. is_misfit halt ≡ false) }
+{
+    let mut all = taken;
+    match all.add(alloc, word.as_bytes()) {
+        Ok(()) => Ok(all),
+        Err(_) => Err(Halt::NoMemory),
+    }
+}
+
 /// Takes a name that none of those before is, and puts it behind them.
-#[tactic(auto, unfolding(crate::specs::Grammar::parameter))]
+#[tactic(auto, using(crate::proofs::FreshNames::fresh_added), unfolding(crate::specs::Grammar::parameter))]
 fn parameter(alloc: Global, reader: &mut Reader<'_>, before: Parameters) -> Result<Parameters, Halt>
     ensures read { Reads (grammar.parameter before) reader.old result reader.new }
     ensures shorter { IfOk result (λ _. length reader.new.rest < length reader.old.rest) }
 {
     let Parameters { numbers, names } = before;
-    let fits = reader.sees_fresh(names.as_slice());
-    let name = reader.next_word(alloc)?;
+    let word = reader.next_word(alloc)?;
+    let fits = is_fresh(reader, &word, &names);
     let at = reader.number(fits)?;
     let numbers = pushed(numbers, at)?;
-    let names = pushed(names, name)?;
+    let names = added(alloc, names, &word)?;
     Ok(Parameters { numbers, names })
 }

@@ -1,6 +1,6 @@
 //! The parts of a text, as numbers of its tokens.
 
-use elan_phrases::Span;
+use elan_phrases::{Planned, Span};
 use sqlite_items::Items;
 
 /// A whole text: its modules, the `LPL` text and the query.
@@ -76,12 +76,12 @@ pub struct RuleOutline {
 }
 
 /// A clause of a rule.
-#[derive(Clone, Copy, Debug, PartialEq, Eq)]
+#[derive(Debug, Drop)]
 pub enum ClauseOutline {
     /// The pattern, the strategy without its parentheses, and the term to which it is applied.
     Where {
         left: Span,
-        by: Option<Span>,
+        by: Option<Planned>,
         of: Span,
     },
     If(Span),
@@ -97,7 +97,7 @@ pub struct Definition {
     /// The tokens that are its parameters, two of which may be equal words.
     pub parameters: Items<u32>,
     /// The strategy that it names.
-    pub by: Span,
+    pub by: Planned,
 }
 
 /// The `LPL` text, which says what may be asked.
@@ -108,5 +108,5 @@ pub struct LplOutline {
     /// References to modules, at least one.
     pub imports: Items<Span>,
     /// The strategy without its parentheses, where it is not empty.
-    pub start: Option<Span>,
+    pub start: Option<Planned>,
 }

@@ -5,17 +5,17 @@ use Rattle.elan_modules.proofs.entry.flatten.Goals as goal
 
 pub returns-clause-told : goal.returns-clause-told
 returns-clause-told g c =
-    let is = rw c.as_mut_slice.ensures.value at c.flatten_with.ensures in gives_told _ _ _ _ _ _ is
+    let is = rw c.as_mut_slice.ensures.value at c.flatten_with.ensures.walks in gives_told _ _ _ _ _ _ is
 
 pub returns-clause-alone : goal.returns-clause-alone
-returns-clause-alone g c = gives_alone _ _ _ _ _ _ c.flatten_with.ensures
+returns-clause-alone g c = gives_alone _ _ _ _ _ _ c.flatten_with.ensures.walks
 
 pub returns-clause-needed : goal.returns-clause-needed
-returns-clause-needed g c = needed_at_fault _ _ _ _ _ _ c.flatten_with.ensures
+returns-clause-needed g c = needed_at_fault _ _ _ _ _ _ c.flatten_with.ensures.walks
 
 pub returns-clause-untouched : goal.returns-clause-untouched
 returns-clause-untouched g c = λ none.
-    let is = rw c.as_mut_slice.ensures.value at c.flatten_with.ensures in
+    let is = rw c.as_mut_slice.ensures.value at c.flatten_with.ensures.walks in
     let same = untouched_alone _ _ _ _ _ _ is none in
     let whole = take_at c.flatten_with.new.loaders _ _ (c.flatten_with.auto.loaders ∙ c.as_mut_slice.ensures.len) in
     (ap (map _) whole ∙ same.misses, ap (map _) whole ∙ same.failures)

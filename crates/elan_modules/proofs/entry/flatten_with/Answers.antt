@@ -1,6 +1,11 @@
 use Rattle.elan_modules.proofs.VisitLemmas.{err_is}
 use Rattle.elan_modules.proofs.EntryLemmas.{hungry_still}
+use Rattle.elan_modules.proofs.FlatLemmas.{stream_fits}
 use Rattle.elan_modules.proofs.entry.flatten_with.Goals as goal
 
-pub returns-in_err-stream : goal.returns-in_err-stream
-returns-in_err-stream g c = rw (err_is _ _ c.from_residual.ensures.1) (hungry_still _ _ _)
+pub returns-in_err-stream-clause-walks : goal.returns-in_err-stream-clause-walks
+returns-in_err-stream-clause-walks g c = rw (err_is _ _ c.from_residual.ensures.1) (hungry_still _ _ _)
+
+pub returns-in-Ok-clause-flat : goal.returns-in-Ok-clause-flat
+returns-in-Ok-clause-flat g c = λ fits.
+    c.flat_of.ensures.flat _ c.in-Ok.ensures.first (rw c.in_ok-stream.ensures (stream_fits _ _ c.args.outline fits))

@@ -10,4 +10,4 @@ pub returns-clause-stays : goal.returns-clause-stays
 returns-clause-stays c =
     let short : nat_lt most_bytes (total c.args.walk.now.texts + length c.args.bytes.items) ≡ false =
     grind (arith, c.is_past.ensures, c.if-is_past.false, c.texts.ensures, c.len.ensures) in
-    admits c.args.walk.now _ _ _ short c.open.ensures
+    admits c.args.walk.now _ _ _ short c.open.ensures.opens

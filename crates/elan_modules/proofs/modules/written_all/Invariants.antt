@@ -5,7 +5,7 @@ use Rattle.elan_modules.proofs.modules.written_all.Given as goal
 -- what was found so far and what is left make the whole
 abbrev pub invariant-spans : goal.invariant-spans
 invariant-spans l =
-    l.found ++ spec.written_all l.text l.parameters l.sorts l.left ≡ spec.written_all l.text l.parameters l.sorts l.spans
+    l.found ++ spec.written_all l.text l.replacements.parameters l.replacements.sorts l.left ≡ spec.written_all l.text l.replacements.parameters l.replacements.sorts l.spans
 
 abbrev pub decreases-spans : goal.decreases-spans
 decreases-spans l = length l.left

@@ -4,9 +4,9 @@ use Rattle.elan_modules.specs.Sorts.{replaced, separators}
 use Rattle.elan_modules.proofs.SortLemmas.{names_are, separators_append}
 use Rattle.elan_modules.proofs.sorts.has_many.Goals as goal
 
-pub returns-then-count-ge-MOST_NAMES : goal.returns-then-count-ge-MOST_NAMES
+pub returns-then-more-count : goal.returns-then-more-count
 unfolding replaced
-returns-then-count-ge-MOST_NAMES c = grind (arith, common_steps, rules, separators_append, names_are)
+returns-then-more-count c = grind (arith, common_steps, rules, separators_append, names_are)
 
 pub words-preserved : goal.words-preserved
 unfolding replaced

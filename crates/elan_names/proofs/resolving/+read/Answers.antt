@@ -1,5 +1,5 @@
-use Rattle.std.proofs.Common.{◌≡◌, ◌∙◌, sym, ap}
-use Rattle.elan_names.specs.declared.plan.PlanNode.TheVariants as node
+use Rattle.std.proofs.Common.{◌∙◌, sym, ap}
+use Rattle.elan_phrases.specs.declared.plan.PlanNode.TheVariants as node
 use Rattle.elan_names.proofs.ResolveLemmas.{give-name, give-applied}
 use Rattle.elan_names.proofs.resolving.+read.Goals as goal
 

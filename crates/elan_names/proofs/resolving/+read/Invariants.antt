@@ -1,5 +1,5 @@
 use Rattle.std.proofs.Common.{◌+◌, ◌*◌}
-use Rattle.elan_names.specs.Plans.{plan_weight, plan_weights}
+use Rattle.elan_phrases.specs.Plans.{plan_weight, plan_weights}
 use Rattle.elan_names.proofs.resolving.+read.Given as goal
 
 abbrev pub decreases-all_onto : goal.decreases-all_onto

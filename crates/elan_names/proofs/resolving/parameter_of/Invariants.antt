@@ -1,5 +1,4 @@
 use Rattle.std.proofs.Common.{◌≡◌, drop}
-use Rattle.std.specs.Prelude.{option_map}
 use Rattle.elan_names.specs.Names.{first}
 use Rattle.elan_names.specs.Resolved.{seen, is_parameter}
 use Rattle.elan_names.proofs.resolving.parameter_of.Given as goal

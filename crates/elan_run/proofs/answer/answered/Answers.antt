@@ -1,5 +1,13 @@
-use Rattle.elan_run.proofs.Asking.{nothing_reported}
+use Rattle.elan_run.proofs.Asking.{not_moved}
 use Rattle.elan_run.proofs.answer.answered.Goals as goal
 
-pub returns-in-Ok-None : goal.returns-in-Ok-None
-returns-in-Ok-None c = nothing_reported _ c.in-Ok-None.field-0 c.in-Ok-None.ensures.found c.in-Ok-None.field-0-is c.requires c.not_built.result c.not_built.ensures
+pub returns-in_err-refused-in-Err-Refused-clause-moved :
+    goal.returns-in_err-refused-in-Err-Refused-clause-moved
+returns-in_err-refused-in-Err-Refused-clause-moved g c = not_moved _
+
+pub returns-in_ok-refused-in-Err-Refused-clause-moved :
+    goal.returns-in_ok-refused-in-Err-Refused-clause-moved
+returns-in_ok-refused-in-Err-Refused-clause-moved g c = not_moved _
+
+pub returns-in-Err-NoMemory-clause-moved : goal.returns-in-Err-NoMemory-clause-moved
+returns-in-Err-NoMemory-clause-moved g c = not_moved _

@@ -1,0 +1,4 @@
+pub mod SortLemmas
+pub mod SmallLemmas
+pub mod WalkLemmas
+pub mod StepLemmas

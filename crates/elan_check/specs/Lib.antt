@@ -1,0 +1,7 @@
+pub mod Laid
+pub mod Lent
+pub mod SortIndex
+pub mod Small
+pub mod Walk
+pub mod Fits
+pub mod Validity

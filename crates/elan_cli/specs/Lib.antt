@@ -1,0 +1,6 @@
+pub mod Words
+pub mod Settings
+pub mod Line
+pub mod Command
+pub mod Refusals
+pub mod Uses

@@ -1,0 +1,101 @@
+//! An outline with each of its parts, whose tokens were numbered by hand.
+
+use elan_lexer::tokens;
+use elan_syntax::{ClauseOutline, Section, Span, outline};
+use std::test::Fail;
+
+const TEXT: &[u8] =
+    b"module m [ X , Y ] import global n [ s ] k ; end sort s t [ u ] ; end operators f ( @ ) : ( s ) t [ u ] pri 7 ( AC ) ; end rules for s x , y : s ; [ r ] f ( x ) => x where y := ( r ) x if y end end strategies for t [ u ] implicit [ ] d => r ; r end [ ] twice ( X , Y ) => X ; Y end end end LPL m description query of sort s result of sort s import m start with ( ) query end f ( a ) end";
+
+/// The tokens from one number up to another.
+fn span(first: u32, past: u32) -> Span {
+    Span { first, past }
+}
+
+#[test]
+fn an_outline_has_the_numbers_of_its_tokens(rt: HostRuntime) -> Result<(), Fail> {
+    let found = tokens(rt.alloc(), TEXT).ok().ok_or("there are tokens")?;
+    let outline = outline(rt.alloc(), TEXT, found.as_slice())
+        .ok()
+        .ok_or("there is an outline")?;
+    assert_eq!(rt; outline.lpl.query_sort, span(109, 110));
+    assert_eq!(rt; outline.lpl.result_sort, span(113, 114));
+    assert_eq!(rt; outline.lpl.imports.as_slice(), [span(115, 116)].as_slice());
+    assert!(rt; outline.lpl.start.is_none());
+    assert_eq!(rt; outline.query, span(122, 126));
+    let [module] = outline.modules.as_slice() else {
+        return Err("there is one module".into());
+    };
+    assert_eq!(rt; module.name, 1);
+    assert_eq!(rt; module.parameters.as_slice(), [3, 5].as_slice());
+    assert_eq!(rt; module.sections.len(), 5);
+    Ok(())
+}
+
+#[test]
+fn a_section_has_the_numbers_of_its_tokens(rt: HostRuntime) -> Result<(), Fail> {
+    let found = tokens(rt.alloc(), TEXT).ok().ok_or("there are tokens")?;
+    let outline = outline(rt.alloc(), TEXT, found.as_slice())
+        .ok()
+        .ok_or("there is an outline")?;
+    let [module] = outline.modules.as_slice() else {
+        return Err("there is one module".into());
+    };
+    for section in module.sections.as_slice() {
+        match section {
+            Section::Imports(imports) => {
+                assert_eq!(rt; imports.as_slice(), [span(9, 13), span(13, 14)].as_slice())
+            }
+            Section::Sorts(sorts) => {
+                assert_eq!(rt; sorts.as_slice(), [span(17, 18), span(18, 22)].as_slice())
+            }
+            Section::Operators(operators) => {
+                let [f] = operators.as_slice() else {
+                    return Err("there is one operator".into());
+                };
+                assert_eq!(rt; f.spelling, span(25, 29));
+                assert_eq!(rt; f.args.as_slice(), [span(31, 32)].as_slice());
+                assert_eq!(rt; f.sort, span(33, 37));
+                assert_eq!(rt; f.attributes, span(37, 42));
+            }
+            Section::Rules { sort, vars, rules } => {
+                let ([vars], [rule]) = (vars.as_slice(), rules.as_slice()) else {
+                    return Err("there is one declaration of variables, and one rule".into());
+                };
+                assert_eq!(rt; *sort, span(46, 47));
+                assert_eq!(rt; vars.names.as_slice(), [47, 49].as_slice());
+                assert_eq!(rt; vars.sort, span(51, 52));
+                assert_eq!(rt; rule.at, 53);
+                assert_eq!(rt; rule.label, Some(54));
+                assert_eq!(rt; rule.left, span(56, 60));
+                assert_eq!(rt; rule.right, span(61, 62));
+                let [
+                    ClauseOutline::Where { left, by, of },
+                    ClauseOutline::If(test),
+                ] = rule.clauses.as_slice()
+                else {
+                    return Err("there are a `where` and an `if`".into());
+                };
+                assert_eq!(rt; *left, span(63, 64));
+                assert_eq!(rt; by.as_ref().map(|by| by.at), Some(span(66, 67)));
+                assert_eq!(rt; *of, span(68, 69));
+                assert_eq!(rt; *test, span(70, 71));
+            }
+            Section::Strategies { sort, definitions } => {
+                let [plain, twice] = definitions.as_slice() else {
+                    return Err("there are two definitions".into());
+                };
+                assert_eq!(rt; *sort, span(75, 79));
+                assert_eq!(rt; plain.at, 80);
+                assert_eq!(rt; plain.name, 82);
+                assert!(rt; plain.parameters.is_empty());
+                assert_eq!(rt; plain.by.at, span(84, 87));
+                assert_eq!(rt; twice.at, 88);
+                assert_eq!(rt; twice.name, 90);
+                assert_eq!(rt; twice.parameters.as_slice(), [92, 94].as_slice());
+                assert_eq!(rt; twice.by.at, span(97, 100));
+            }
+        }
+    }
+    Ok(())
+}

@@ -1,7 +1,0 @@
-use Rattle.elan_prepare.proofs.Fronts.{rules_next}
-use Rattle.elan_prepare.proofs.rules.rules_of.Goals as goal
-
-pub loop-section-preserved : goal.loop-section-preserved
-loop-section-preserved c =
-    rules_next _ _ _ _ _ _ _ _ _ _ c.loop-section-test.true c.section-item.is c.if-not-branch.false c.in_ok-rules_in_onto.ensures
-    c.loop-section.invariant

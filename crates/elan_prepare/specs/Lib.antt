@@ -1,5 +1,0 @@
-pub mod Words
-pub mod Declarations
-pub mod Programs
-pub mod Asked
-pub mod Prepared

@@ -1,0 +1,9 @@
+//! Tests of whole runs: small programs with what they write, and refusals with their places.
+#![tactic(auto)]
+
+#[cfg(test)]
+mod programs;
+#[cfg(test)]
+mod rows;
+#[cfg(test)]
+mod strategies;

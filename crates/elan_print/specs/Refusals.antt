@@ -2,7 +2,7 @@
 use Rattle.std.specs.Prelude.{ℕ, Option, Some, None, List, [], ◌++◌, codes, decimal}
 use Rattle.elan_text.specs.declared.name.Name.{Name}
 use Rattle.elan_text.specs.declared.refusal.Code.{Code}
-use Rattle.elan_text.specs.declared.refusal.Code.TheVariants.{E01, E02, E03, E04, E05, E06, E07, E08, E09, E10, E11, E12, E13, E14, E15, E16, E17, E18, E19, E20, E21, E22, E99}
+use Rattle.elan_text.specs.declared.refusal.Code.TheVariants.{E01, E02, E03, E04, E05, E06, E07, E08, E09, E10, E11, E12, E13, E14, E15, E16, E17, E18, E19, E20, E21, E22}
 use Rattle.elan_text.specs.declared.refusal.Refusal.{Refusal}
 
 -- the name of a code
@@ -29,7 +29,6 @@ code_name E19 = codes "E19"
 code_name E20 = codes "E20"
 code_name E21 = codes "E21"
 code_name E22 = codes "E22"
-code_name E99 = codes "E99"
 
 -- what a code says
 abbrev pub code_words : Code → List ℕ
@@ -55,7 +54,6 @@ code_words E19 = codes "variable bound twice"
 code_words E20 = codes "unknown strategy"
 code_words E21 = codes "name twice"
 code_words E22 = codes "strategy of another sort"
-code_words E99 = codes "form not built yet"
 
 -- where the place lies in a loaded text, the module's name
 abbrev pub module_words : Option Name → List ℕ

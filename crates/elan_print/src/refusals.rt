@@ -33,7 +33,6 @@ fn code_name(code: Code) -> &'static [u8]
         Code::E20 => b"E20",
         Code::E21 => b"E21",
         Code::E22 => b"E22",
-        Code::E99 => b"E99",
     }
 }
 
@@ -64,7 +63,6 @@ fn code_words(code: Code) -> &'static [u8]
         Code::E20 => b"unknown strategy",
         Code::E21 => b"name twice",
         Code::E22 => b"strategy of another sort",
-        Code::E99 => b"form not built yet",
     }
 }
 

@@ -1,4 +1,4 @@
-//! Copies of names, strategies, conditions and rules.
+//! Copies of strategies, conditions and rules.
 
 ghost use Rattle.std.specs.Prelude.{◌≡◌, ◌++◌, IfOk};
 
@@ -7,15 +7,6 @@ use elan_terms::copy_pattern;
 use elan_text::{Name, NoMemory};
 use sqlite_items::{Boxed, Items};
 use std::alloc::Global;
-
-/// A name of the same bytes.
-pub fn copy_name(alloc: Global, name: &Name) -> Result<Name, NoMemory>
-    ensures { IfOk result (λ n. n ≡ name.now) }
-{
-    Ok(Name {
-        bytes: Items::from_slice(alloc, name.bytes.as_slice())?,
-    })
-}
 
 #[cycle(copy_strategy)]
 #[tactic(auto, using(crate::proofs::StrategyWeights::strategy_falls))]
@@ -119,7 +110,7 @@ fn copy_label(alloc: Global, label: &Option<Name>) -> Result<Option<Name>, NoMem
 {
     match label {
         None => Ok(None),
-        Some(name) => Ok(Some(copy_name(alloc, name)?)),
+        Some(name) => Ok(Some(name.copy(alloc)?)),
     }
 }
 

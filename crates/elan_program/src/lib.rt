@@ -12,7 +12,7 @@ mod spelling;
 mod strategy;
 mod valid;
 
-pub use copies::{copy_clause, copy_name, copy_rule, copy_strategy};
+pub use copies::{copy_clause, copy_rule, copy_strategy};
 pub use extending::extension;
 pub use patterns::{pattern_sort, uses};
 pub use program::{Clause, Named, Parts, Program, Rule};

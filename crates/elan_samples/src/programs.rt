@@ -2,7 +2,7 @@
 
 use elan_program::{
     Assoc, Builtin, Clause, Named, Operator, Parts, Piece, Program, Rule, Signature, Strategy,
-    StrategyNode, copy_clause, copy_name, copy_rule, copy_strategy, extension,
+    StrategyNode, copy_clause, copy_rule, copy_strategy, extension,
 };
 use elan_terms::{OpId, Pattern, PatternNode, SortId};
 use elan_text::{Name, NoMemory};
@@ -386,13 +386,10 @@ fn shapes_keep_what_terms_need(rt: HostRuntime) -> Result<(), Fail> {
 #[test]
 fn copies_have_the_same_parts(rt: HostRuntime) -> Result<(), Fail> {
     let alloc = rt.alloc();
-    let name = Name {
-        bytes: Items::from_slice(alloc, b"inc".as_slice())?,
-    };
-    assert_eq!(rt;
-        copy_name(alloc, &name)?.bytes.as_slice(),
-        b"inc".as_slice()
-    );
+    let name = Name::new(alloc, b"inc".as_slice())?;
+    let copy = name.copy(alloc)?;
+    assert_eq!(rt; copy.as_bytes(), b"inc".as_slice());
+    assert!(rt; copy == name);
     let again = copy_rule(alloc, &rule(alloc, 0)?)?;
     for clause in again.clauses.as_slice() {
         let whole = Strategy {

@@ -1,8 +1,10 @@
 -- The bytes that were taken and the bytes that are left.
-use Rattle.std.proofs.Common.{◌≡◌, ℕ, ◌+◌, List, ◌++◌, take, drop, Option, Some, None, sym, ◌∙◌, ap}
+use Rattle.std.proofs.Common.{arith, ◌≡◌, ◌≤◌, ℕ, ◌+◌, List, ◌++◌, take, drop, length, Option, Some, None, sym, ◌∙◌, ap, subst}
 use Rattle.std.specs.Option.{option_map}
-use Rattle.std.proofs.lemmas.List.{take-append-drop, drop-drop, append_assoc}
+use Rattle.std.proofs.Math.Nat.{min-le_left}
+use Rattle.std.proofs.lemmas.List.{take-append-drop, drop-drop, append_assoc, length-append, length-take}
 use Rattle.elan_text.specs.Streams.{Consumes, Appends}
+use Rattle.elan_text.specs.Whole.{PastWithin}
 
 -- after the next n bytes of a text that begins at a place, the text begins n bytes later
 pub consumes_next : (at n : ℕ) (bytes text taken : List ℕ) → text ≡ bytes → take n taken ≡ take n (drop at text)
@@ -33,3 +35,14 @@ writes_next before middle after piece left n h next = (
   h.1 ∙ ap (λ rest. h.0 ++ rest) (sym (take-append-drop n left)) ∙ sym (append_assoc h.0 (take n left) (drop n left)),
   appends_both before middle after h.0 (take n left) h.2 next,
 )
+
+-- of at most so many bytes and then at most so many more, no more than their sum are taken
+pub taken_within : (before middle after : Option (List ℕ)) (xs ys : List ℕ) (most more : ℕ) → Consumes before xs middle → Consumes middle ys after
+    → length xs ≤ most → length ys ≤ more → PastWithin (most + more) before after
+taken_within before middle after xs ys most more first second few fewer =
+    let long : length (xs ++ ys) ≡ length xs + length ys = length-append xs ys in
+    (xs ++ ys, consumes_both before middle after xs ys first second, grind arith)
+
+-- the first n of a list are at most n
+pub first_few : {A : Type 0} (n : ℕ) (xs : List A) → length (take n xs) ≤ n
+first_few n xs = subst (λ k. k ≤ n) (sym (length-take n xs)) (min-le_left n (length xs))

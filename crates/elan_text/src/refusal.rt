@@ -60,8 +60,6 @@ pub enum Code {
     E21,
     /// A strategy for another sort than the one wanted.
     E22,
-    /// A form of the language that is not built yet.
-    E99,
 }
 
 /// One refusal: the code, its place, and the loaded module in whose text that place lies, if it is not the stream's.

@@ -1,8 +1,8 @@
 //! A source read to its end, and a piece written whole.
 
-ghost use Rattle.std.specs.Prelude.{◌≡◌, ◌≤◌, length, IfOk, OnOk, OnErr, IsErrOf};
+ghost use Rattle.std.specs.Prelude.{◌≡◌, ◌≤◌, ◌+◌, length, IfOk, OnOk, OnErr, IsErrOf};
 ghost use Rattle.elan_text.specs.Streams.{Rose, Appends, Consumes};
-ghost use Rattle.elan_text.specs.Whole.{Drained, PastMost, IsPast, AppendsPart};
+ghost use Rattle.elan_text.specs.Whole.{Drained, PastMost, IsPast, PastWithin, AppendsPart};
 
 use crate::{Got, Put, ReadRefusal, Sink, Source, WriteFault};
 use std::alloc::Global;
@@ -11,7 +11,7 @@ use std::alloc::Global;
 const CHUNK: usize = 16_384;
 
 /// All bytes of a source up to its end, where there are at most `max`. After an error the source is past the bytes
-/// that were taken.
+/// that were taken: at most 16,384 more than `max`, and at most `max` where the source failed.
 #[tactic(auto, using(crate::proofs::Fronts::consumes_both))]
 pub fn read_all<S: Source>(
     alloc: Global,
@@ -26,6 +26,10 @@ pub fn read_all<S: Source>(
         → PastMost max (S.left source.old) (S.left source.new) }
     ensures fault { IsErrOf result ReadRefusal.ReadFault
         → Rose (S.failures source.old) (S.failures source.new) }
+    // No more is taken than the limit asks for.
+    ensures early { IsErrOf result ReadRefusal.ReadFault
+        → PastWithin max (S.left source.old) (S.left source.new) }
+    ensures most { OnErr result (PastWithin (max + 16384) (S.left source.old) (S.left source.new)) }
     ensures past { OnErr result (IsPast (S.left source.old) (S.left source.new)) }
     ensures kept { S.failures source.old ≤ S.failures source.new }
 {

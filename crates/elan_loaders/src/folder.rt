@@ -25,11 +25,12 @@ pub struct FolderLoader<R> {
     faults: u64,
 }
 
-impl<R> FolderLoader<R> {
+impl<R: Files + AllocGlobal + Drop> FolderLoader<R> {
     /// A loader of the files of this folder, which this runtime opens. It takes no memory.
     pub fn new(rt: R, folder: String) -> FolderLoader<R>
-        ensures misses { result.absences ≡ 0 }
-        ensures failures { result.faults ≡ 0 }
+        ensures library { ⟦<FolderLoader<R> as Loader>⟧.library result ≡ None }
+        ensures misses { ⟦<FolderLoader<R> as Loader>⟧.misses result ≡ 0 }
+        ensures failures { ⟦<FolderLoader<R> as Loader>⟧.failures result ≡ 0 }
     {
         FolderLoader {
             rt,

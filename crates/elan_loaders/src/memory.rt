@@ -1,8 +1,12 @@
 //! A loader in memory, which tells its texts and fails where it is told to.
 
-ghost use Rattle.std.specs.Prelude.{◌≡◌, Some, [], map};
+ghost use Rattle.std.specs.Prelude.{◌≡◌, ◌≢◌, ◌≤◌, ◌∷◌, ◌++◌, ◌⊎◌, Some, [], OnOk, OnErr, map, string_bytes};
 ghost use Rattle.std.specs.Option.{option_map};
 ghost use Rattle.std.specs.BTreeMap.{get_by_text};
+ghost use Rattle.elan_text.specs.Streams.{Rose};
+ghost use Rattle.elan_loaders.specs.Libraries.{Answers};
+ghost use Rattle.elan_loaders.specs.Asked.{names_asked};
+ghost use Rattle.elan_loaders.specs.declared.loader.Fetched.TheVariants.{Absent, Failed, NoMemory as OutOfMemory};
 
 use crate::{Fetched, Loader};
 use elan_text::NoMemory;
@@ -29,6 +33,7 @@ impl MemoryLoader {
             ≡ Some (λ name. option_map (λ text. text.items) (get_by_text texts name)) }
         ensures misses { ⟦<MemoryLoader as Loader>⟧.misses result ≡ 0 }
         ensures failures { ⟦<MemoryLoader as Loader>⟧.failures result ≡ 0 }
+        ensures asked { names_asked result ≡ [] }
     {
         MemoryLoader {
             alloc,
@@ -43,7 +48,7 @@ impl MemoryLoader {
 
     /// The names that were asked for, in order. It takes no memory.
     pub fn asked(&self) -> &[String]
-        ensures { result.now ≡ self.now.asked.items }
+        ensures { map string_bytes result.now ≡ names_asked self.now }
     {
         self.asked.as_slice()
     }
@@ -53,6 +58,8 @@ impl MemoryLoader {
         ensures texts { self.new.texts ≡ self.old.texts }
         ensures absences { self.new.absences ≡ self.old.absences }
         ensures faults { self.new.faults ≡ self.old.faults }
+        ensures ok { OnOk result (names_asked self.new ≡ names_asked self.old ++ name.now ∷ []) }
+        ensures err { OnErr result (names_asked self.new ≡ names_asked self.old) }
     {
         self.calls = self.calls.saturating_add(1);
         self.asked.push(String::from_str(self.alloc, name)?)?;
@@ -70,7 +77,26 @@ impl Loader for MemoryLoader {
 
     ghost failures = { λ loader. loader.faults };
 
-    fn fetch(&mut self, name: &str, into: &mut Vec<u8>) -> Fetched {
+    /// Puts the text of a name at the end of a buffer, and keeps the name among those that were asked for. Only for
+    /// want of memory it may be lost.
+    fn fetch(&mut self, name: &str, into: &mut Vec<u8>) -> Fetched
+        ensures answers { Answers (⟦<MemoryLoader as Loader>⟧.library self.old) name.now
+            result into.old.items into.new.items }
+        ensures library { ⟦<MemoryLoader as Loader>⟧.library self.new
+            ≡ ⟦<MemoryLoader as Loader>⟧.library self.old }
+        ensures absent { result ≡ Absent → Rose (⟦<MemoryLoader as Loader>⟧.misses self.old)
+            (⟦<MemoryLoader as Loader>⟧.misses self.new) }
+        ensures failed { result ≡ Failed → Rose (⟦<MemoryLoader as Loader>⟧.failures self.old)
+            (⟦<MemoryLoader as Loader>⟧.failures self.new) }
+        ensures misses { ⟦<MemoryLoader as Loader>⟧.misses self.old
+            ≤ ⟦<MemoryLoader as Loader>⟧.misses self.new }
+        ensures failures { ⟦<MemoryLoader as Loader>⟧.failures self.old
+            ≤ ⟦<MemoryLoader as Loader>⟧.failures self.new }
+        ensures asked { result ≢ OutOfMemory
+            → names_asked self.new ≡ names_asked self.old ++ name.now ∷ [] }
+        ensures kept { (names_asked self.new ≡ names_asked self.old)
+            ⊎ (names_asked self.new ≡ names_asked self.old ++ name.now ∷ []) }
+    {
         if self.note(name).is_err() {
             return Fetched::NoMemory;
         }

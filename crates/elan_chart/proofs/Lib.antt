@@ -12,3 +12,4 @@ pub mod PutLemmas
 pub mod SpanLemmas
 pub mod LawLemmas
 pub mod TableLemmas
+pub mod VariableLemmas

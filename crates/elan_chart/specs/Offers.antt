@@ -162,6 +162,15 @@ group_offers first last inner = if is_sign 40 first && is_sign 41 last then flat
 abbrev pub variable_offer : List ℕ → Variable → List Entry
 variable_offer text v = if bytes_eq v.name.bytes text then entry (Whole v.sort None false) (One (var_pattern v.number v.sort ∷ [])) ∷ [] else []
 
+-- the variable that there is, if there is one
+abbrev pub variable_found : Option Variable → List Entry
+variable_found None = []
+variable_found (Some v) = entry (Whole v.sort None false) (One (var_pattern v.number v.sort ∷ [])) ∷ []
+
+-- the variable at a place, where there is one
+abbrev pub variable_at : List Variable → ℕ → List Entry
+variable_at variables place = variable_found (slice_get variables place)
+
 -- the variables of a word
 abbrev pub variable_offers : List Variable → Lexeme → List Entry
 variable_offers variables t = if is_word_kind t.kind then flat_map (variable_offer t.text) variables else []

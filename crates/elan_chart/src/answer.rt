@@ -16,9 +16,10 @@ use crate::operators::{blank, ends_onto, injections_onto, lasts_onto};
 use crate::shared::{Tree, to_owned};
 use elan_lexer::Token;
 use elan_program::Signature;
-use elan_reading::{Lexeme, ReadingRefusal, Sought, Variable};
+use elan_reading::{Lexeme, ReadingRefusal, Sought};
 use elan_terms::Pattern;
 use elan_text::NoMemory;
+use elan_variables::Variables;
 use sqlite_items::Items;
 use std::alloc::Global;
 
@@ -107,7 +108,7 @@ fn longest<'a>(rows: &'a [Items<Items<Entry>>]) -> &'a [Entry]
 pub fn read(
     alloc: Global,
     signature: &Signature,
-    variables: &[Variable],
+    variables: &Variables,
     sought: Sought,
     bytes: &[u8],
     tokens: &[Token],
@@ -136,7 +137,7 @@ pub fn read(
 fn found_in(
     alloc: Global,
     signature: &Signature,
-    variables: &[Variable],
+    variables: &Variables,
     sought: Sought,
     lexemes: &[Lexeme],
 ) -> Result<Option<Found>, NoMemory>

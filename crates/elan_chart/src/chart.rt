@@ -11,9 +11,10 @@ use crate::found::{Entry, put_all};
 use crate::lexemes::is_sign;
 use crate::offers::{put_cut, put_groups, put_integer, put_lasts, put_risen, put_token, put_words};
 use elan_program::Signature;
-use elan_reading::{Lexeme, Variable};
+use elan_reading::Lexeme;
 use elan_terms::OpId;
 use elan_text::{Name, NoMemory};
+use elan_variables::Variables;
 use sqlite_items::Items;
 use std::alloc::Global;
 
@@ -21,7 +22,7 @@ use std::alloc::Global;
 #[derive(Clone, Copy)]
 pub(crate) struct Scope<'a> {
     pub signature: &'a Signature,
-    pub variables: &'a [Variable],
+    pub variables: &'a Variables,
     /// The operators whose words are in the text, each behind its last piece.
     pub ends: &'a [Entry],
     /// The injections from each sort.

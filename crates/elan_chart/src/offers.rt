@@ -10,13 +10,14 @@ ghost use Rattle.elan_chart.specs.Found as found;
 ghost use Rattle.elan_chart.specs.Offers as spec;
 
 use crate::found::{Entry, Found, Key, applied, is_settled, joined, one, put};
-use crate::lexemes::{integer, is_number, is_same, is_sign, is_word};
+use crate::lexemes::{integer, is_number, is_sign, is_word};
 use crate::pieces::{fits_arg, fits_before, is_injection_from, is_word_at, takes_hole};
 use crate::shared::Tree;
 use elan_program::{Operator, Signature};
 use elan_reading::{Lexeme, Variable, is_injection, tie};
 use elan_terms::{OpId, SortId};
 use elan_text::NoMemory;
+use elan_variables::Variables;
 use sqlite_items::Items;
 use std::alloc::Global;
 
@@ -532,48 +533,65 @@ pub(crate) fn put_groups(
     }
 }
 
+/// The variable at a place, where there is one.
 fn put_variable(
     alloc: Global,
     run: &mut Items<Entry>,
-    variable: &Variable,
-    token: &Lexeme,
+    variables: &[Variable],
+    place: usize,
 ) -> Result<(), NoMemory>
-    ensures { IfOk result (λ _. run.new ≡ found.put_all run.old (spec.variable_offer token.now.text
-        variable.now)) }
+    ensures { IfOk result (λ _. run.new ≡ found.put_all run.old (spec.variable_at variables.now
+        place)) }
 {
-    if is_same(variable.name.as_bytes(), token.text.as_slice()) {
-        put(
+    match variables.get(place) {
+        None => Ok(()),
+        Some(variable) => put(
             run,
             Entry {
                 key: Key::Whole(variable.sort, None, false),
                 found: one(alloc, Tree::var(variable.number, variable.sort))?,
             },
-        )
-    } else {
-        Ok(())
+        ),
     }
 }
 
+/// The variables at these places.
 #[tactic(auto, using(crate::proofs::PutLemmas::put_all_append))]
-fn put_each_variable(
+fn put_places(
     alloc: Global,
     run: &mut Items<Entry>,
     variables: &[Variable],
+    places: &[usize],
+) -> Result<(), NoMemory>
+    ensures { IfOk result (λ _. run.new ≡ found.put_all run.old (flat_map (spec.variable_at
+        variables.now) places.now)) }
+{
+    for place in places {
+        put_variable(alloc, run, variables, *place)?;
+    }
+    Ok(())
+}
+
+/// The variables whose name a token is; it does not go through the others.
+#[tactic(auto, using(crate::proofs::VariableLemmas::all_called))]
+fn put_each_variable(
+    alloc: Global,
+    run: &mut Items<Entry>,
+    variables: &Variables,
     token: &Lexeme,
 ) -> Result<(), NoMemory>
     ensures { IfOk result (λ _. run.new ≡ found.put_all run.old (flat_map (spec.variable_offer
         token.now.text) variables.now)) }
 {
-    for variable in variables {
-        put_variable(alloc, run, variable, token)?;
-    }
+    let places = variables.places_of(token.text.as_slice());
+    put_places(alloc, run, variables.as_slice(), places)?;
     Ok(())
 }
 
 fn put_variables(
     alloc: Global,
     run: &mut Items<Entry>,
-    variables: &[Variable],
+    variables: &Variables,
     token: &Lexeme,
 ) -> Result<(), NoMemory>
     ensures { IfOk result (λ _. run.new ≡ found.put_all run.old (spec.variable_offers variables.now
@@ -623,7 +641,7 @@ pub(crate) fn put_token(
     alloc: Global,
     run: &mut Items<Entry>,
     signature: &Signature,
-    variables: &[Variable],
+    variables: &Variables,
     token: &Lexeme,
 ) -> Result<(), NoMemory>
     requires { IsInRange token.now }

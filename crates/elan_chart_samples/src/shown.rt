@@ -7,6 +7,8 @@ use elan_program::Signature;
 use elan_reading::{ReadingRefusal, Sought, Variable};
 use elan_terms::{Pattern, PatternNode, SortId};
 use elan_text::{Name, NoMemory};
+use elan_variables::Variables;
+use sqlite_items::Items;
 use std::alloc::Global;
 
 /// Puts a number in digits.
@@ -59,14 +61,14 @@ fn refusal(refusal: ReadingRefusal) -> &'static [u8] {
     }
 }
 
-fn variables(alloc: Global) -> Result<Vec<Variable>, NoMemory> {
-    let mut variables = Vec::new(alloc);
+fn variables(alloc: Global) -> Result<Variables, NoMemory> {
+    let mut variables = Items::new(alloc);
     variables.push(Variable {
         name: Name::new(alloc, b"v")?,
         sort: SortId(0),
         number: 7,
     })?;
-    Ok(variables)
+    Variables::new(alloc, variables)
 }
 
 /// What a text is read as, where the word `v` is the variable 7 of the sort 0; or why it is not.
@@ -86,14 +88,7 @@ pub(crate) fn shown(
     match tokens(alloc, text) {
         Err(_) => out.extend_from_slice(b"no tokens")?,
         Ok(list) => {
-            match read(
-                alloc,
-                signature,
-                variables.as_slice(),
-                sought,
-                text,
-                list.as_slice(),
-            ) {
+            match read(alloc, signature, &variables, sought, text, list.as_slice()) {
                 Ok(tree) => tree_onto(alloc, &mut out, &tree)?,
                 Err(why) => out.extend_from_slice(refusal(why))?,
             }

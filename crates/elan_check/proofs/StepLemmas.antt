@@ -137,7 +137,7 @@ few_text flat m (Some text) i j at few e =
 -- the sections of the module of an instance are few
 pub module_few : (flat : Flat) (o : Origin) (m : LoadedText × ModuleOutline) → is_small flat ≡ true → module_of flat o ≡ Some m → list_all is_few m.1.sections ≡ true
 unfolding is_small
-module_few flat Builtin m small e = absurd (no_module m e)
+module_few flat (Builtin built_in) m small e = absurd (no_module m e)
 module_few flat (Text i j) m small e = few_text flat m (slice_get flat.texts i) i j refl small e
 
 -- the same of a module that was found

@@ -183,7 +183,7 @@ module _ (g : Signature) where
 
       module_fits : (o : Origin) → ModuleFits (module_of flat o)
       unfolding is_small
-      module_fits Builtin = tt
+      module_fits (Builtin built_in) = tt
       module_fits (Text i j) = go (slice_get flat.texts i) refl
         where
           inner : (text : LoadedText) → slice_get flat.texts i ≡ Some text → (m : Option ModuleOutline) → slice_get text.modules j ≡ m → ModuleFits (option_map (λ m. (text, m)) m)

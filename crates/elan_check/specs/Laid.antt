@@ -119,7 +119,7 @@ module_in (Some text) j = option_map (λ m. (text, m)) (slice_get text.modules j
 
 -- the same of an instance
 abbrev pub module_of : Flat → Origin → Option (LoadedText × ModuleOutline)
-module_of flat Builtin = None
+module_of flat (Builtin built_in) = None
 module_of flat (Text i j) = module_in (slice_get flat.texts i) j
 
 -- where the sections of an instance stand

@@ -16,6 +16,7 @@ use elan_modules::{Flat, LoadedText, Replacements};
 use elan_reading::Sought;
 use elan_terms::SortId;
 use elan_text::{Code, Stop};
+use elan_variables::Variables;
 use sqlite_items::Items;
 use std::alloc::Global;
 
@@ -95,14 +96,14 @@ fn asked_in<'a, R: Read>(
         (spec.asked (R.reads c.reader.now) flat.now c.signature.now c.names.now) }
 {
     let sort = asked_sort(alloc, sorts, flat, stream)?;
-    let none = Items::new(alloc);
+    let none = Variables::none(alloc);
     let around = Around {
         reader: checker.reader,
         signature: checker.signature,
         names: checker.names,
         index: checker.index,
         text: stream,
-        variables: none.as_slice(),
+        variables: &none,
     };
     let asked = asked_at(alloc, &around, flat, sort)?;
     Ok(asked)

@@ -14,6 +14,7 @@ use crate::variables::{tokens_of, variables_of};
 use elan_modules::{Flat, Instance, LoadedText, Origin, Replacements, parameters_of};
 use elan_syntax::{Definition, ModuleOutline, RuleOutline, Section, Span, Vars};
 use elan_text::Stop;
+use elan_variables::Variables;
 use sqlite_items::Items;
 use std::alloc::Global;
 
@@ -31,7 +32,7 @@ fn lay_rules<'a>(
         sort vars.now rules.now) }
 {
     let sort = sort_at(alloc, sorts, site, sort)?;
-    let variables = variables_of(alloc, sorts, site, vars)?;
+    let variables = Variables::new(alloc, variables_of(alloc, sorts, site, vars)?)?;
     let tokens = tokens_of(alloc, vars)?;
     Ok(Part::Rules {
         text: site.text,
@@ -115,7 +116,7 @@ fn module_of(flat: &Flat, origin: Origin) -> Option<(&LoadedText, &ModuleOutline
     ensures { option_map (λ m. (m.0.now, m.1.now)) result ≡ spec.module_of flat.now origin }
 {
     match origin {
-        Origin::Builtin => None,
+        Origin::Builtin(_) => None,
         Origin::Text { text, module } => match flat.texts.get(text as usize) {
             None => None,
             Some(text) => match text.modules.get(module as usize) {

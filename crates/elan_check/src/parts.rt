@@ -1,9 +1,9 @@
 //! Sections that hold rules and definitions.
 
 use elan_modules::LoadedText;
-use elan_reading::Variable;
 use elan_syntax::{Definition, RuleOutline};
 use elan_terms::SortId;
+use elan_variables::Variables;
 use sqlite_items::Items;
 
 /// A section in its text, with its sort.
@@ -14,7 +14,7 @@ pub(crate) enum Part<'a> {
         text: &'a LoadedText,
         sort: SortId,
         tokens: Items<u32>,
-        variables: Items<Variable>,
+        variables: Variables,
         rules: &'a [RuleOutline],
     },
     Strategies {

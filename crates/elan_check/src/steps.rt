@@ -24,6 +24,7 @@ use elan_program::{Named, Rule, Signature};
 use elan_syntax::{Definition, RuleOutline};
 use elan_terms::SortId;
 use elan_text::{Code, Stop};
+use elan_variables::Variables;
 use sqlite_items::Items;
 use std::alloc::Global;
 
@@ -85,7 +86,7 @@ fn rule_onto<R: Read>(
 {
     within(alloc, done, around.text, rule.at)?;
     let (checked, order) = checked_rule(alloc, around, sort, rule)?;
-    let numbered = numbered_rule(alloc, order.as_slice(), checked)?;
+    let numbered = numbered_rule(alloc, &order, checked)?;
     done.rules.push(numbered)?;
     Ok(())
 }
@@ -217,7 +218,7 @@ fn part_onto<'a, R: Read>(
                 names: checker.names,
                 index: checker.index,
                 text,
-                variables: variables.as_slice(),
+                variables,
             };
             rules_part(alloc, &around, done, *sort, tokens.as_slice(), rules)
         }
@@ -226,14 +227,14 @@ fn part_onto<'a, R: Read>(
             sort,
             definitions,
         } => {
-            let none = Items::new(alloc);
+            let none = Variables::none(alloc);
             let around = Around {
                 reader: checker.reader,
                 signature: checker.signature,
                 names: checker.names,
                 index: checker.index,
                 text,
-                variables: none.as_slice(),
+                variables: &none,
             };
             definitions_onto(alloc, &around, done, *sort, definitions)
         }

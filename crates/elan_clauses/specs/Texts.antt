@@ -60,6 +60,10 @@ Bound = List (ℕ × SortId)
 abbrev pub closed : LoadedText → Span → Bound → Pattern → Checked Pattern
 closed text at bound p = unless text at E18 (not (uses bound p)) p
 
+-- one of these variables has this number
+abbrev pub has_number : Bound → ℕ → Bool
+has_number bound x = list_any (λ w. w.0 == x) bound
+
 -- a variable has the number of one of these
 abbrev pub is_numbered_in : Bound → ℕ × SortId → Bool
 is_numbered_in bound v = list_any (λ w. w.0 == v.0) bound

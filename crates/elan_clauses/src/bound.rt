@@ -1,36 +1,54 @@
 //! The variables that are bound, and the numbers that they get.
 
-ghost use Rattle.std.specs.Prelude.{◌≡◌, ◌≤◌, ◌<◌, ◌^◌, ◌+◌, ◌++◌, length, map, reverse, IfOk};
-ghost use Rattle.std.specs.List.{list_any};
+ghost use Rattle.std.specs.Prelude.{◌≡◌, ◌<◌, ◌^◌, ◌++◌, false, length, map, reverse, IfOk, OnOk};
+ghost use Rattle.std.specs.List.{list_all, list_any};
+ghost use Rattle.elan_terms.specs.Match.{variables as variables_in};
+ghost use Rattle.elan_program.specs.Patterns as used;
 ghost use Rattle.elan_clauses.specs.Gives.{Gives};
 ghost use Rattle.elan_clauses.specs.Texts as texts;
 ghost use Rattle.elan_clauses.specs.Rules as spec;
 
+use crate::bound_variables::BoundVariables;
 use crate::refusing::refused;
 use elan_modules::LoadedText;
-use elan_program::{Clause, Rule, uses};
+use elan_program::{Clause, Rule};
 use elan_syntax::Span;
 use elan_terms::{Pattern, PatternNode, SortId, variables};
 use elan_text::{Code, NoMemory, Stop};
 use sqlite_items::Items;
 use std::alloc::Global;
 
-fn is_numbered_in(bound: &[(u32, SortId)], number: u32, sort: SortId) -> bool
-    ensures { result ≡ texts.is_numbered_in bound.now (number, sort) }
-{
-    match bound {
-        [] => false,
-        [first, rest @ ..] => first.0 == number || is_numbered_in(rest, number, sort),
-    }
-}
-
-fn is_any_numbered_in(bound: &[(u32, SortId)], found: &[(u32, SortId)]) -> bool
+/// Whether one of these variables has the number of one that is bound.
+fn is_any_numbered_in(bound: &BoundVariables, found: &[(u32, SortId)]) -> bool
     ensures { result ≡ list_any (texts.is_numbered_in bound.now) found.now }
 {
     match found {
         [] => false,
-        [first, rest @ ..] => is_numbered_in(bound, first.0, first.1)
-            || is_any_numbered_in(bound, rest),
+        [first, rest @ ..] => bound.has_number(first.0) || is_any_numbered_in(bound, rest),
+    }
+}
+
+#[cycle(uses)]
+#[tactic(auto, using(elan_program::proofs::PatternLemmas::use_rules))]
+fn all_use(bound: &BoundVariables, patterns: &[Pattern]) -> bool
+    ensures { result ≡ list_all (used.uses bound.now) patterns.now }
+{
+    match patterns {
+        [] => true,
+        [first, rest @ ..] => uses(bound, first) && all_use(bound, rest),
+    }
+}
+
+/// Whether each variable of a pattern is bound, at its sort.
+#[cycle(uses)]
+#[tactic(auto, using(elan_program::proofs::PatternLemmas::use_rules))]
+fn uses(bound: &BoundVariables, pattern: &Pattern) -> bool
+    ensures { result ≡ used.uses bound.now pattern.now }
+{
+    match &pattern.node {
+        PatternNode::Var(number, sort) => bound.is_bound(*number, *sort),
+        PatternNode::Int(_) => true,
+        PatternNode::App(_, args) => all_use(bound, args.as_slice()),
     }
 }
 
@@ -39,7 +57,7 @@ pub(crate) fn closed(
     alloc: Global,
     text: &LoadedText,
     at: Span,
-    bound: &[(u32, SortId)],
+    bound: &BoundVariables,
     pattern: Pattern,
 ) -> Result<Pattern, Stop>
     ensures { Gives result (texts.closed text.now at bound.now pattern) }
@@ -56,10 +74,12 @@ pub(crate) fn fresh(
     alloc: Global,
     text: &LoadedText,
     at: Span,
-    bound: &[(u32, SortId)],
+    bound: &BoundVariables,
     pattern: Pattern,
 ) -> Result<Pattern, Stop>
-    ensures { Gives result (texts.fresh text.now at bound.now pattern) }
+    ensures exact { Gives result (texts.fresh text.now at bound.now pattern) }
+    ensures fresh { IfOk result
+        (λ p. list_any (texts.is_numbered_in bound.now) (variables_in p) ≡ false) }
 {
     let found = variables(alloc, &pattern)?;
     if is_any_numbered_in(bound, found.as_slice()) {
@@ -69,21 +89,28 @@ pub(crate) fn fresh(
     }
 }
 
-/// The place of a variable among those that are bound.
-fn place_in(order: &[(u32, SortId)], number: u32) -> u32
-    requires { length order.now < 2 ^ 32 }
-    ensures { result ≡ spec.place_in order.now number }
+/// The variables of a pattern in order of first occurrence.
+#[tactic(auto, using(crate::proofs::BoundLemmas::bound_first))]
+pub(crate) fn bound_in(alloc: Global, pattern: &Pattern) -> Result<BoundVariables, NoMemory>
+    ensures { IfOk result (λ b. b ≡ variables_in pattern.now) }
 {
-    let mut place = 0;
-    let mut left = order;
-    'variables: while let [first, rest @ ..] = left {
-        if first.0 == number {
-            return place;
-        }
-        place += 1;
-        left = rest;
-    }
-    place
+    let mut bound = BoundVariables::new(alloc);
+    bound.bind_all(variables(alloc, pattern)?.as_slice())?;
+    Ok(bound)
+}
+
+/// Binds the variables of a pattern, none of which is bound, behind the others.
+#[tactic(auto, using(crate::proofs::BoundLemmas::bound_behind))]
+pub(crate) fn bind_fresh(
+    alloc: Global,
+    bound: &mut BoundVariables,
+    pattern: &Pattern,
+) -> Result<(), NoMemory>
+    requires { list_any (texts.is_numbered_in bound.old) (variables_in pattern.now) ≡ false }
+    ensures { OnOk result (bound.new ≡ bound.old ++ variables_in pattern.now) }
+{
+    bound.bind_all(variables(alloc, pattern)?.as_slice())?;
+    Ok(())
 }
 
 /// A pattern with its variables numbered by their places.
@@ -91,7 +118,7 @@ fn place_in(order: &[(u32, SortId)], number: u32) -> u32
 #[tactic(auto, using(crate::proofs::TextLemmas::numbered_rules))]
 fn numbered_so(
     alloc: Global,
-    order: &[(u32, SortId)],
+    order: &BoundVariables,
     pattern: &Pattern,
 ) -> Result<Pattern, NoMemory>
     requires { length order.now < 2 ^ 32 }
@@ -99,7 +126,7 @@ fn numbered_so(
 {
     match &pattern.node {
         PatternNode::Var(number, sort) => Ok(Pattern {
-            node: PatternNode::Var(place_in(order, *number), *sort),
+            node: PatternNode::Var(order.place_in(*number) as u32, *sort),
         }),
         PatternNode::Int(z) => Ok(Pattern {
             node: PatternNode::Int(*z),
@@ -118,7 +145,7 @@ fn numbered_so(
 #[tactic(auto, using(crate::proofs::TextLemmas::numbered_rules))]
 fn numbered_onto(
     alloc: Global,
-    order: &[(u32, SortId)],
+    order: &BoundVariables,
     out: &mut Items<Pattern>,
     patterns: &[Pattern],
 ) -> Result<(), NoMemory>
@@ -136,7 +163,7 @@ fn numbered_onto(
 
 fn numbered_clause(
     alloc: Global,
-    order: &[(u32, SortId)],
+    order: &BoundVariables,
     clause: Clause,
 ) -> Result<Clause, NoMemory>
     requires { length order.now < 2 ^ 32 }
@@ -156,7 +183,7 @@ fn numbered_clause(
 #[tactic(auto, using(crate::proofs::TurnLemmas::back_step))]
 fn numbered_back(
     alloc: Global,
-    order: &[(u32, SortId)],
+    order: &BoundVariables,
     mut clauses: Items<Clause>,
 ) -> Result<Items<Clause>, NoMemory>
     requires { length order.now < 2 ^ 32 }
@@ -185,7 +212,7 @@ fn turned(alloc: Global, mut clauses: Items<Clause>) -> Result<Items<Clause>, No
 #[tactic(auto, using(crate::proofs::TurnLemmas::turned_twice))]
 fn numbered_clauses(
     alloc: Global,
-    order: &[(u32, SortId)],
+    order: &BoundVariables,
     clauses: Items<Clause>,
 ) -> Result<Items<Clause>, NoMemory>
     requires { length order.now < 2 ^ 32 }
@@ -197,7 +224,7 @@ fn numbered_clauses(
 }
 
 /// A rule with its variables numbered by their places.
-pub fn numbered_rule(alloc: Global, order: &[(u32, SortId)], rule: Rule) -> Result<Rule, NoMemory>
+pub fn numbered_rule(alloc: Global, order: &BoundVariables, rule: Rule) -> Result<Rule, NoMemory>
     requires { length order.now < 2 ^ 32 }
     ensures { IfOk result (λ r. r ≡ spec.numbered_rule (rule, order.now)) }
 {

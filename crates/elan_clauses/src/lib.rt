@@ -2,6 +2,7 @@
 #![tactic(auto)]
 
 mod bound;
+mod bound_variables;
 mod definitions;
 mod reading;
 mod refusing;
@@ -10,6 +11,7 @@ mod texts;
 mod twice;
 
 pub use bound::numbered_rule;
+pub use bound_variables::BoundVariables;
 pub use definitions::checked_definition;
 pub use reading::{Read, Unread};
 pub use refusing::{name_at, refused};

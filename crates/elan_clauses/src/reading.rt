@@ -10,9 +10,10 @@ ghost use Rattle.elan_clauses.specs.Gives.{Tells};
 
 use elan_lexer::Token;
 use elan_program::Signature;
-use elan_reading::{Sought, Variable};
+use elan_reading::Sought;
 use elan_terms::Pattern;
 use elan_text::Code;
+use elan_variables::Variables;
 use std::alloc::Global;
 
 /// Why a text is not read.
@@ -32,7 +33,7 @@ pub trait Read {
         &self,
         alloc: Global,
         signature: &Signature,
-        variables: &[Variable],
+        variables: &Variables,
         sought: Sought,
         bytes: &[u8],
         tokens: &[Token],

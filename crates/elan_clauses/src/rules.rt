@@ -1,15 +1,19 @@
 //! Rules and definitions, checked one by one.
 
-ghost use Rattle.std.specs.Prelude.{◌≡◌, ◌<◌, ◌^◌, ◌++◌, true, length, map, IfOk, Ok, Err, Some, None};
+ghost use Rattle.std.specs.Prelude.{◌≡◌, ◌<◌, ◌^◌, ◌++◌, true, false, length, map, IfOk, Ok, Err, Some, None};
+ghost use Rattle.std.specs.List.{list_any};
 ghost use Rattle.std.specs.Option.{option_map};
+ghost use Rattle.elan_terms.specs.Match.{variables as variables_in};
 ghost use Rattle.elan_program.specs.Soundness.{is_sound};
 ghost use Rattle.elan_clauses.specs.Gives.{Gives, Leaves, GivesWith};
 ghost use Rattle.elan_clauses.specs.Readable.{IsReadable};
 ghost use Rattle.elan_names.specs.Resolved.{seen_body};
 ghost use Rattle.elan_clauses.specs.Refusals.{name_at as the_name};
+ghost use Rattle.elan_clauses.specs.Texts.{is_numbered_in};
 ghost use Rattle.elan_clauses.specs.Rules as spec;
 
-use crate::bound::{closed, fresh};
+use crate::bound::{bind_fresh, bound_in, closed, fresh};
+use crate::bound_variables::BoundVariables;
 use crate::reading::Read;
 use crate::refusing::{name_at, refused};
 use crate::texts::{Around, sort_of, text_as, truth_as};
@@ -19,7 +23,7 @@ use elan_phrases::{Plan, PlanNode, Planned};
 use elan_program::{Clause, Rule, Strategy};
 use elan_reading::Sought;
 use elan_syntax::{ClauseOutline, RuleOutline, Span};
-use elan_terms::{Pattern, SortId, variables};
+use elan_terms::{Pattern, SortId};
 use elan_text::{Name, NoMemory, Stop};
 use sqlite_items::Items;
 use std::alloc::Global;
@@ -101,7 +105,7 @@ pub(crate) fn planned_in<'a, R: Read>(
 fn checked_if<R: Read>(
     alloc: Global,
     around: &Around<'_, R>,
-    bound: &[(u32, SortId)],
+    bound: &BoundVariables,
     at: Span,
 ) -> Result<Pattern, Stop>
     requires sound { is_sound around.now.signature.now ≡ true }
@@ -118,14 +122,16 @@ fn checked_if<R: Read>(
 fn checked_left<R: Read>(
     alloc: Global,
     around: &Around<'_, R>,
-    bound: &[(u32, SortId)],
+    bound: &BoundVariables,
     at: Span,
 ) -> Result<(Pattern, SortId), Stop>
     requires sound { is_sound around.now.signature.now ≡ true }
     requires readable { IsReadable around.now.text.now }
-    ensures { let a = around.now in
+    ensures exact { let a = around.now in
         Gives result (spec.checked_left (R.reads a.reader.now) a.signature.now a.names.now
         a.text.now a.variables.now bound.now at) }
+    ensures fresh { IfOk result
+        (λ l. list_any (is_numbered_in bound.now) (variables_in l.0) ≡ false) }
 {
     let left = text_as(alloc, around, Sought::Any, at)?;
     let left = fresh(alloc, around.text, at, bound, left)?;
@@ -137,7 +143,7 @@ fn checked_left<R: Read>(
 fn checked_start<R: Read>(
     alloc: Global,
     around: &Around<'_, R>,
-    bound: &[(u32, SortId)],
+    bound: &BoundVariables,
     sort: SortId,
     by: &Option<Planned>,
     at: Span,
@@ -157,7 +163,7 @@ fn checked_start<R: Read>(
 fn checked_where<R: Read>(
     alloc: Global,
     around: &Around<'_, R>,
-    bound: &mut Items<(u32, SortId)>,
+    bound: &mut BoundVariables,
     left: Span,
     by: &Option<Planned>,
     of: Span,
@@ -168,9 +174,9 @@ fn checked_where<R: Read>(
         GivesWith result bound.new (spec.checked_where (R.reads a.reader.now) a.signature.now
         a.names.now a.text.now a.variables.now bound.old left by.now of) }
 {
-    let (left, sort) = checked_left(alloc, around, bound.as_slice(), left)?;
-    let (by, of) = checked_start(alloc, around, bound.as_slice(), sort, by, of)?;
-    bound.append(variables(alloc, &left)?)?;
+    let (left, sort) = checked_left(alloc, around, bound, left)?;
+    let (by, of) = checked_start(alloc, around, bound, sort, by, of)?;
+    bind_fresh(alloc, bound, &left)?;
     Ok(Clause::Where { left, by, of })
 }
 
@@ -178,7 +184,7 @@ fn checked_where<R: Read>(
 fn checked_clause<R: Read>(
     alloc: Global,
     around: &Around<'_, R>,
-    bound: &mut Items<(u32, SortId)>,
+    bound: &mut BoundVariables,
     clause: &ClauseOutline,
 ) -> Result<Clause, Stop>
     requires sound { is_sound around.now.signature.now ≡ true }
@@ -189,7 +195,7 @@ fn checked_clause<R: Read>(
 {
     match clause {
         ClauseOutline::If(test) => {
-            let test = checked_if(alloc, around, bound.as_slice(), *test)?;
+            let test = checked_if(alloc, around, bound, *test)?;
             Ok(Clause::If(test))
         }
         ClauseOutline::Where { left, by, of } => {
@@ -203,7 +209,7 @@ fn clauses_onto<R: Read>(
     alloc: Global,
     around: &Around<'_, R>,
     out: &mut Items<Clause>,
-    bound: &mut Items<(u32, SortId)>,
+    bound: &mut BoundVariables,
     clauses: &[ClauseOutline],
 ) -> Result<(), Stop>
     requires sound { is_sound around.now.signature.now ≡ true }
@@ -227,7 +233,7 @@ pub fn checked_rule<R: Read>(
     around: &Around<'_, R>,
     sort: SortId,
     rule: &RuleOutline,
-) -> Result<(Rule, Items<(u32, SortId)>), Stop>
+) -> Result<(Rule, BoundVariables), Stop>
     requires sound { is_sound around.now.signature.now ≡ true }
     requires readable { IsReadable around.now.text.now }
     ensures { let a = around.now in
@@ -236,7 +242,7 @@ pub fn checked_rule<R: Read>(
 {
     let left = text_as(alloc, around, Sought::Sort(sort), rule.left)?;
     let right = text_as(alloc, around, Sought::Sort(sort), rule.right)?;
-    let mut bound = variables(alloc, &left)?;
+    let mut bound = bound_in(alloc, &left)?;
     let mut clauses = Items::new(alloc);
     clauses_onto(
         alloc,
@@ -245,7 +251,7 @@ pub fn checked_rule<R: Read>(
         &mut bound,
         rule.clauses.as_slice(),
     )?;
-    let right = closed(alloc, around.text, rule.right, bound.as_slice(), right)?;
+    let right = closed(alloc, around.text, rule.right, &bound, right)?;
     let label = label_at(alloc, around.text, rule.label)?;
     Ok((
         Rule {

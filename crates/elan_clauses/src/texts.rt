@@ -16,10 +16,11 @@ use elan_lexer::Token;
 use elan_modules::{LoadedText, part};
 use elan_names::{Index, Names};
 use elan_program::{Operator, Signature, Truth};
-use elan_reading::{Sought, Variable};
+use elan_reading::Sought;
 use elan_syntax::Span;
 use elan_terms::{OpId, Pattern, PatternNode, SortId};
 use elan_text::{Code, Stop};
+use elan_variables::Variables;
 use std::alloc::Global;
 
 /// What texts and strategies are checked by.
@@ -30,7 +31,7 @@ pub struct Around<'a, R> {
     pub names: &'a Names,
     pub index: &'a Index,
     pub text: &'a LoadedText,
-    pub variables: &'a [Variable],
+    pub variables: &'a Variables,
     pub ghost indexed: { IsIndexOf index.now names.now signature.now.operators },
 }
 

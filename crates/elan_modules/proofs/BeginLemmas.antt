@@ -8,7 +8,7 @@ use Rattle.elan_modules.specs.Walking.{Walk}
 use Rattle.elan_modules.specs.declared.walk.Reference.{Reference}
 use Rattle.elan_modules.specs.declared.walk.Opening.{Opening}
 use Rattle.elan_modules.specs.declared.walk.Spot.{Spot}
-use Rattle.elan_modules.specs.declared.walk.Standard.{Standard}
+use Rattle.elan_modules.specs.declared.flat.Standard.{Standard}
 use Rattle.elan_modules.specs.Modules.{Found, find, is_name, standard_of}
 use Rattle.elan_modules.specs.Finds.{Stands, Finds}
 use Rattle.elan_modules.specs.Visits.{is_e06, Library, Halted, Refuses, Silent, Begun, next, fetched, located_or, located, begun_text, begun_standard, begun, refusal_at}

@@ -36,7 +36,7 @@ get_last (y ∷ xs) x = get_last xs x
 
 pub origin_kept : (before after : List LoadedText) (name : List ℕ) → Keeps before after → (origin : Origin)
     → IsOriginOf before name origin → IsOriginOf after name origin
-origin_kept before after name keeps Builtin is = is
+origin_kept before after name keeps (Builtin built_in) is = is
 origin_kept before after name keeps (Text t m) is = record {
   text = is.text;
   outline = is.outline;

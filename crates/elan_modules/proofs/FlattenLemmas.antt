@@ -14,7 +14,7 @@ use Rattle.elan_modules.specs.declared.flat.FlattenRefusal.{FlattenRefusal}
 use Rattle.elan_modules.specs.declared.flat.FlattenRefusal.TheVariants.{Refused, LoaderFault, NoMemory}
 use Rattle.elan_modules.specs.Walking.{Walk}
 use Rattle.elan_modules.specs.declared.walk.Reference.{Reference}
-use Rattle.elan_modules.specs.declared.walk.Standard.{Standard}
+use Rattle.elan_modules.specs.declared.flat.Standard.{Standard}
 use Rattle.elan_loaders.specs.Libraries.{Library as Texts, Told, Has, HasNone, Untold, found_or, first_told}
 use Rattle.elan_modules.specs.Modules.{Found, Opened, find, is_name, opened, standard_of, first_long, parameters_of, sort_spans, imports_of, references_of, parameter_count, standard_imports}
 use Rattle.elan_modules.specs.Visits.{Library, Halted, Refuses, Silent, Visiting, next, with_text, fetched, located_or, located, begun_text, begun_or, begun, measured, text_imports, built_imports, completed, finished, is_named_by, is_instance, most_instances, most_bytes, total, refused_at, too_long, visit_all, visit_step, visit, named_once, named_twice, start, walked, stream_of, flat_program, flat_of, is_unknown, nobody, needs_loaders}

@@ -13,6 +13,8 @@ use Rattle.elan_syntax.specs.Grammar.{stream}
 use Rattle.elan_syntax.specs.declared.parts.Outline.{Outline}
 use Rattle.elan_modules.specs.declared.flat.LoadedText.{LoadedText}
 use Rattle.elan_modules.specs.declared.flat.Origin.TheVariants.{Builtin, Text}
+use Rattle.elan_modules.specs.declared.flat.Standard.{Standard}
+use Rattle.elan_modules.specs.declared.flat.Standard.TheVariants as built
 use Rattle.elan_modules.specs.declared.flat.Instance.{Instance}
 use Rattle.elan_loaders.specs.Libraries.{first_told, Library as Texts}
 use Rattle.elan_modules.specs.Visits.{Library, Halted, Refuses, Silent, Walked, walked, stream_of}
@@ -61,8 +63,8 @@ abbrev named : List ℕ → Name
 named bytes = record { bytes = bytes }
 
 -- an instance of a module that is built in
-abbrev standard : List ℕ → Instance
-standard name = record { name = named name; args = []; origin = Builtin }
+abbrev standard : List ℕ → Standard → Instance
+standard name built_in = record { name = named name; args = []; origin = Builtin built_in }
 
 -- an instance without arguments of a module of a text
 abbrev plain : List ℕ → ℕ → ℕ → Instance
@@ -98,7 +100,7 @@ unfolding computed where_to
 silent = refl
 
 -- a loader is not asked for what is built in, which stands before what imports it
-needless : where_to (None ∷ []) (ask (codes "int")) ≡ Finishes (standard (codes "bool") ∷ standard (codes "int") ∷ []) (None ∷ [])
+needless : where_to (None ∷ []) (ask (codes "int")) ≡ Finishes (standard (codes "bool") built.Bool ∷ standard (codes "int") built.Int ∷ []) (None ∷ [])
 unfolding computed where_to
 needless = refl
 
@@ -112,14 +114,14 @@ cell = refl
 -- the built-in module is finished before the loaded one, and its importer last
 use_ : where_to (one (codes "list") (codes "module list[X]\nsort list[X]; end\noperators global\n  nil : list[X];\n  @ . @ : (X list[X]) list[X] pri 5 assocRight;\nend\nend\n") ∷ [])
     (codes "module use\nimport global int list[int]; end\nend\n" ++ ask (codes "use"))
-    ≡ Finishes (standard (codes "bool") ∷ standard (codes "int") ∷ applied (codes "list") (codes "int") 1 0 ∷ plain (codes "use") 0 0 ∷ []) (None ∷ Some (named (codes "list")) ∷ [])
+    ≡ Finishes (standard (codes "bool") built.Bool ∷ standard (codes "int") built.Int ∷ applied (codes "list") (codes "int") 1 0 ∷ plain (codes "use") 0 0 ∷ []) (None ∷ Some (named (codes "list")) ∷ [])
 unfolding computed where_to
 use_ = refl
 
 -- two instances of one text, which is loaded once
 twice : where_to (one (codes "list") (codes "module list[X]\nsort list[X]; end\noperators global\n  nil : list[X];\n  @ . @ : (X list[X]) list[X] pri 5 assocRight;\nend\nend\n") ∷ [])
     (codes "module use\nimport global int list[int] list[bool]; end\nend\n" ++ ask (codes "use"))
-    ≡ Finishes (standard (codes "bool") ∷ standard (codes "int") ∷ applied (codes "list") (codes "int") 1 0 ∷ applied (codes "list") (codes "bool") 1 0
+    ≡ Finishes (standard (codes "bool") built.Bool ∷ standard (codes "int") built.Int ∷ applied (codes "list") (codes "int") 1 0 ∷ applied (codes "list") (codes "bool") 1 0
     ∷ plain (codes "use") 0 0 ∷ []) (None ∷ Some (named (codes "list")) ∷ [])
 unfolding computed where_to
 twice = refl
@@ -157,7 +159,7 @@ unfolding computed where_to
 taken = refl
 
 -- what no visit reaches is not looked at
-unseen : where_to [] (codes "module n import missing; end end module m end\n" ++ ask (codes "m bool m")) ≡ Finishes (plain (codes "m") 0 1 ∷ standard (codes "bool") ∷ []) (None ∷ [])
+unseen : where_to [] (codes "module n import missing; end end module m end\n" ++ ask (codes "m bool m")) ≡ Finishes (plain (codes "m") 0 1 ∷ standard (codes "bool") built.Bool ∷ []) (None ∷ [])
 unfolding computed where_to
 unseen = refl
 

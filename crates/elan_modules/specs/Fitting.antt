@@ -9,7 +9,6 @@ use Rattle.elan_modules.specs.declared.flat.Origin.{Origin}
 use Rattle.elan_modules.specs.declared.flat.Origin.TheVariants.{Builtin, Text}
 use Rattle.elan_modules.specs.declared.flat.Instance.{Instance}
 use Rattle.elan_modules.specs.declared.flat.Flat.{Flat}
-use Rattle.elan_modules.specs.declared.walk.Standard.{Standard}
 use Rattle.elan_modules.specs.Modules.{name_of, standard_of}
 
 -- the tokens are those of the bytes, and each of them lies inside
@@ -25,9 +24,9 @@ pub record IsModuleAt (texts : List LoadedText) (name : List ℕ) (text_number m
   pub outline_is : slice_get text.modules module_number ≡ Some outline
   pub name_is : name_of text outline ≡ name
 
--- an origin is that of a module of this name: one that is built in, or one that stands in a text
+-- an origin is that of a module of this name: the one that is built in, or one that stands in a text
 abbrev pub IsOriginOf : List LoadedText → List ℕ → Origin → Type 0
-IsOriginOf texts name Builtin = (built_in : Standard) × (standard_of name ≡ Some built_in)
+IsOriginOf texts name (Builtin built_in) = standard_of name ≡ Some built_in
 IsOriginOf texts name (Text text_number module_number) = IsModuleAt texts name text_number module_number
 
 -- the module of an instance is where its origin says
@@ -48,7 +47,7 @@ outline_at (Some text) module_number = option_map (λ outline. (text, outline)) 
 
 -- the module of an origin with its text; one that is built in has none
 abbrev pub module_at : List LoadedText → Origin → Option (LoadedText × ModuleOutline)
-module_at texts Builtin = None
+module_at texts (Builtin built_in) = None
 module_at texts (Text text_number module_number) = outline_at (slice_get texts text_number) module_number
 
 -- the module of an instance with its text

@@ -22,8 +22,8 @@ use Rattle.elan_syntax.specs.Grammar.{module_text}
 use Rattle.elan_syntax.specs.Outlines.{code_of, place_of}
 use Rattle.elan_modules.specs.declared.flat.LoadedText.{LoadedText}
 use Rattle.elan_modules.specs.declared.walk.Reference.{Reference}
-use Rattle.elan_modules.specs.declared.walk.Standard.{Standard}
-use Rattle.elan_modules.specs.declared.walk.Standard.TheVariants as standard
+use Rattle.elan_modules.specs.declared.flat.Standard.{Standard}
+use Rattle.elan_modules.specs.declared.flat.Standard.TheVariants as standard
 use Rattle.elan_modules.specs.Sorts.{word_at, place_at, written, names_in, argument_spans, most_names}
 
 -- ---- built-in modules

@@ -20,7 +20,7 @@ use Rattle.elan_modules.specs.declared.flat.Instance.{Instance}
 use Rattle.elan_modules.specs.declared.flat.Flat.{Flat}
 use Rattle.elan_modules.specs.Walking.{Walk}
 use Rattle.elan_modules.specs.declared.walk.Reference.{Reference}
-use Rattle.elan_modules.specs.declared.walk.Standard.{Standard}
+use Rattle.elan_modules.specs.declared.flat.Standard.{Standard}
 use Rattle.elan_numbers.specs.Numbering.{is_called}
 use Rattle.elan_loaders.specs.Libraries.{Told, Has, HasNone, Untold}
 use Rattle.elan_modules.specs.Sorts.{place_at}
@@ -141,7 +141,7 @@ begun_text r at = next (text_imports r at.1.text at.1.outline)
 -- an instance of a module that is built in
 abbrev pub begun_standard : Walk → Reference → Standard → Result Begun Halted
 begun_standard walk r built_in =
-    next (built_imports r built_in) (λ imports. Ok (record { walk = walk; origin = Builtin; imports = imports }))
+    next (built_imports r built_in) (λ imports. Ok (record { walk = walk; origin = Builtin built_in; imports = imports }))
 
 -- an instance of a module that is built in, or else of one of a text
 abbrev pub begun_or : Library → Walk → Reference → Option Standard → Result Begun Halted

@@ -11,7 +11,7 @@ ghost use Rattle.elan_modules.specs.Walks.{Walks, Stays, Is, shelf};
 ghost use Rattle.elan_modules.specs.Loads.{HasOne, IsOwn, walk_with, begun_with, itself};
 
 use crate::find::find;
-use crate::flat::{FlattenRefusal, LoadedText, Origin};
+use crate::flat::{FlattenRefusal, LoadedText, Origin, Standard};
 use crate::load::{load, refused_at};
 use crate::modules::{
     copy_owner, first_long, imports_of, parameter_count, parameters_of, sort_spans,
@@ -20,7 +20,7 @@ use crate::modules::{
 use crate::opening::is_name;
 use crate::progress::Walk;
 use crate::replacing::Replacements;
-use crate::walk::{Opening, Reference, Spot, Standard};
+use crate::walk::{Opening, Reference, Spot};
 use elan_loaders::Loader;
 use elan_syntax::ModuleOutline;
 use elan_text::{Code, NoMemory, Place, Refusal};
@@ -101,11 +101,11 @@ fn begin_standard(
 ) -> Result<Opening, FlattenRefusal>
     ensures stays { Stays (begun_with walk.now) result
         (spec.begun_standard walk.now reference.now standard) }
-    ensures origin { IfOk result (λ opening. opening.origin ≡ Builtin) }
+    ensures origin { IfOk result (λ opening. opening.origin ≡ Builtin standard) }
 {
     let imports = built_imports(alloc, reference, standard)?;
     Ok(Opening {
-        origin: Origin::Builtin,
+        origin: Origin::Builtin(standard),
         imports,
     })
 }

@@ -20,11 +20,20 @@ pub struct LoadedText {
     pub modules: Items<ModuleOutline>,
 }
 
+/// A module that is built in, whose name is `bool`, `int` or `eq`.
+#[derive(Clone, Copy, Debug, PartialEq, Eq)]
+pub enum Standard {
+    Bool,
+    Int,
+    /// It has one parameter, the sort whose terms are compared.
+    Eq,
+}
+
 /// Where the text of a module is.
 #[derive(Clone, Copy, Debug, PartialEq, Eq)]
 pub enum Origin {
-    /// It is built in and has none.
-    Builtin,
+    /// It is this built-in module and has none.
+    Builtin(Standard),
     /// The number of the text, and of the module in it, both counted from 0.
     Text { text: u32, module: u32 },
 }

@@ -16,7 +16,7 @@ mod visit;
 mod walk;
 
 pub use entry::flatten;
-pub use flat::{Flat, FlattenRefusal, Instance, LoadedText, Origin};
-pub use modules::{copy_name, copy_owner, parameters_of};
+pub use flat::{Flat, FlattenRefusal, Instance, LoadedText, Origin, Standard};
+pub use modules::{copy_owner, parameters_of};
 pub use replacing::Replacements;
-pub use sorts::{argument_spans, part, place_at, word, word_at, written, written_by};
+pub use sorts::{argument_spans, part, place_at, word, word_at, written_by};

@@ -7,7 +7,7 @@ ghost use Rattle.elan_modules.specs.Walks.{Walks, Stays, Is, shelf};
 ghost use Rattle.elan_modules.specs.Loads.{HasOne, IsOwn, walk_with};
 
 use crate::flat::{FlattenRefusal, LoadedText};
-use crate::modules::{copy_name, copy_owner};
+use crate::modules::copy_owner;
 use crate::opening::open;
 use crate::progress::Walk;
 use crate::walk::Reference;
@@ -85,7 +85,7 @@ fn is_past(texts: &[LoadedText], more: usize) -> bool
 fn too_long(alloc: Global, name: &Name) -> FlattenRefusal
     ensures { Is (spec.too_long name.now) result }
 {
-    match copy_name(alloc, name) {
+    match name.copy(alloc) {
         Ok(module) => FlattenRefusal::Refused(Refusal {
             code: Code::E01,
             at: Place { line: 1, column: 1 },

@@ -5,10 +5,10 @@ ghost use Rattle.std.specs.Option.{option_map};
 ghost use Rattle.elan_modules.specs.Sorts as sorts;
 ghost use Rattle.elan_modules.specs.Modules as spec;
 
-use crate::flat::LoadedText;
+use crate::flat::{LoadedText, Standard};
 use crate::replacing::Replacements;
 use crate::sorts::{argument_spans, is_long, place_at, word_at, written_by};
-use crate::walk::{Reference, Standard};
+use crate::walk::Reference;
 use elan_syntax::{ModuleOutline, OpDecl, Section, Span, Vars};
 use elan_text::{Name, NoMemory, Place};
 use sqlite_items::Items;
@@ -39,19 +39,12 @@ pub(crate) fn parameter_count(standard: Standard) -> usize
     }
 }
 
-/// A copy of a name.
-pub fn copy_name(alloc: Global, name: &Name) -> Result<Name, NoMemory>
-    ensures { IfOk result (λ copy. copy ≡ name.now) }
-{
-    Name::new(alloc, name.as_bytes())
-}
-
 /// A copy of the name of a loaded text.
 pub fn copy_owner(alloc: Global, owner: &Option<Name>) -> Result<Option<Name>, NoMemory>
     ensures { IfOk result (λ copy. copy ≡ owner.now) }
 {
     match owner {
-        Some(name) => Ok(Some(copy_name(alloc, name)?)),
+        Some(name) => Ok(Some(name.copy(alloc)?)),
         None => Ok(None),
     }
 }

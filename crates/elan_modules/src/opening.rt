@@ -9,7 +9,6 @@ ghost use Rattle.elan_modules.specs.Openings.{InText, Opens};
 ghost use Rattle.elan_modules.specs.Loads.{IsOwn};
 
 use crate::flat::{FlattenRefusal, LoadedText};
-use crate::modules::copy_name;
 use elan_lexer::{Token, tokens};
 use elan_phrases::is_unreserved;
 use elan_syntax::{ModuleOutline, module_outline};
@@ -47,7 +46,7 @@ fn loaded(
         ≡ spec.loaded_text name.now bytes.items tokens.items outline) }
     ensures err { IfErr result (λ e. e ≡ OutOfMemory) }
 {
-    let module = copy_name(alloc, name)?;
+    let module = name.copy(alloc)?;
     let mut modules = Items::new(alloc);
     modules.push(outline)?;
     Ok(LoadedText {
@@ -63,7 +62,7 @@ fn refusal_in(alloc: Global, name: &Name, stop: Stop) -> FlattenRefusal
     ensures { InText name.now stop result }
 {
     match stop {
-        Stop::Refused(refusal) => match copy_name(alloc, name) {
+        Stop::Refused(refusal) => match name.copy(alloc) {
             Ok(module) => FlattenRefusal::Refused(Refusal {
                 code: refusal.code,
                 at: refusal.at,

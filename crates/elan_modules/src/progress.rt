@@ -7,7 +7,6 @@ ghost use Rattle.elan_modules.specs.Visits as spec;
 ghost use Rattle.elan_modules.specs.Walking as walking;
 
 use crate::flat::{Instance, LoadedText, Origin};
-use crate::modules::copy_name;
 use crate::walk::Reference;
 use elan_numbers::Numbers;
 use elan_text::{Name, NoMemory};
@@ -125,7 +124,7 @@ impl Walk {
 fn instance_of(alloc: Global, reference: &Reference, origin: Origin) -> Result<Instance, NoMemory>
     ensures { IfOk result (λ instance. instance ≡ spec.instance_of reference.now origin) }
 {
-    let name = copy_name(alloc, &reference.name)?;
+    let name = reference.name.copy(alloc)?;
     let args = copied(alloc, reference.args.as_slice())?;
     Ok(Instance { name, args, origin })
 }
@@ -137,7 +136,7 @@ pub(crate) fn copied(alloc: Global, names: &[Name]) -> Result<Items<Name>, NoMem
     let mut copy = Items::new(alloc);
     let mut left = names;
     'names: while let [first, rest @ ..] = left {
-        copy.push(copy_name(alloc, first)?)?;
+        copy.push(first.copy(alloc)?)?;
         left = rest;
     }
     Ok(copy)

@@ -6,7 +6,6 @@ ghost use Rattle.elan_numbers.specs.Numbering.{is_called, with_name};
 ghost use Rattle.elan_modules.specs.Replacing as replacing;
 ghost use Rattle.elan_modules.specs.Sorts as spec;
 
-use crate::modules::copy_name;
 use crate::sorts::separators_in;
 use elan_numbers::Numbers;
 use elan_text::{Name, NoMemory};
@@ -154,6 +153,6 @@ fn add_value(
         return Ok(());
     }
     known.add(alloc, name)?;
-    values.push(copy_name(alloc, sort)?)?;
+    values.push(sort.copy(alloc)?)?;
     Ok(())
 }

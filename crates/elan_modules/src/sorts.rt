@@ -79,24 +79,8 @@ fn value_at<'a>(
     }
 }
 
-/// The written form of the sort expression of a span, with the parameters replaced.
-pub fn written(
-    alloc: Global,
-    text: &LoadedText,
-    parameters: &[Name],
-    sorts: &[Name],
-    span: Span,
-) -> Result<Name, NoMemory>
-    ensures { IfOk result (λ name. name.bytes
-        ≡ spec.written text.now parameters.now sorts.now span) }
-{
-    let replacements = Replacements::new(alloc, parameters, sorts)?;
-    let name = written_by(alloc, text, &replacements, span)?;
-    Ok(name)
-}
-
-/// The written form of the sort expression of a span, with the parameters replaced. Each word is looked up once, so this
-/// is the call for many sort expressions of one module.
+/// The written form of the sort expression of a span, with the parameters replaced. Each word is looked up once,
+/// and the replacements serve all sort expressions of a module.
 pub fn written_by(
     alloc: Global,
     text: &LoadedText,

@@ -10,7 +10,6 @@ ghost use Rattle.elan_modules.specs.Loads.{become};
 use crate::begin::begin;
 use crate::flat::FlattenRefusal;
 use crate::load::refused_at;
-use crate::modules::copy_name;
 use crate::progress::{Walk, copied};
 use crate::walk::Reference;
 use elan_loaders::Loader;
@@ -27,9 +26,7 @@ fn is_on(path: &[Name], reference: &Reference) -> bool
 {
     match path {
         [] => false,
-        [first, rest @ ..] => {
-            reference.name.as_bytes() == first.as_bytes() || is_on(rest, reference)
-        }
+        [first, rest @ ..] => { reference.name == *first || is_on(rest, reference) }
     }
 }
 
@@ -45,7 +42,7 @@ fn extended(alloc: Global, path: &[Name], name: &Name) -> Result<Items<Name>, No
     ensures { IfOk result (λ longer. longer ≡ path.now ++ name.now ∷ []) }
 {
     let mut longer = copied(alloc, path)?;
-    longer.push(copy_name(alloc, name)?)?;
+    longer.push(name.copy(alloc)?)?;
     Ok(longer)
 }
 

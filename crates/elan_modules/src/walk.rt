@@ -16,14 +16,6 @@ pub struct Reference {
     pub module: Option<Name>,
 }
 
-/// A module that is built in.
-#[derive(Clone, Copy, Debug, PartialEq, Eq)]
-pub enum Standard {
-    Bool,
-    Int,
-    Eq,
-}
-
 /// Where a module is: the number of its text, and of the module in it.
 #[derive(Clone, Copy, Debug)]
 pub struct Spot {

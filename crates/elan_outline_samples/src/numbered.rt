@@ -1,7 +1,9 @@
 //! An outline with each of its parts, whose tokens were numbered by hand.
 
 use elan_lexer::tokens;
-use elan_syntax::{ClauseOutline, Section, Span, outline};
+use elan_syntax::{Attributes, ClauseOutline, Section, Side, Span, module_outline, outline};
+use elan_text::Name;
+use std::alloc::Global;
 use std::test::Fail;
 
 const TEXT: &[u8] =
@@ -56,7 +58,12 @@ fn a_section_has_the_numbers_of_its_tokens(rt: HostRuntime) -> Result<(), Fail> 
                 assert_eq!(rt; f.spelling, span(25, 29));
                 assert_eq!(rt; f.args.as_slice(), [span(31, 32)].as_slice());
                 assert_eq!(rt; f.sort, span(33, 37));
-                assert_eq!(rt; f.attributes, span(37, 42));
+                let said = (
+                    f.attributes.priority,
+                    f.attributes.associativity,
+                    f.attributes.ac,
+                );
+                assert_eq!(rt; said, (Some(7), None, true));
             }
             Section::Rules { sort, vars, rules } => {
                 let ([vars], [rule]) = (vars.as_slice(), rules.as_slice()) else {
@@ -98,4 +105,51 @@ fn a_section_has_the_numbers_of_its_tokens(rt: HostRuntime) -> Result<(), Fail> 
         }
     }
     Ok(())
+}
+
+/// Attributes in each order, with what they say.
+#[test]
+fn attributes_say_the_same_in_each_order(rt: HostRuntime) -> Result<(), Fail> {
+    let rows: [(&[u8], Option<u8>, Option<Side>, bool); 11] = [
+        (b"", None, None, false),
+        (b"pri 0", Some(0), None, false),
+        (b"pri 007", Some(7), None, false),
+        (b"pri 255", Some(255), None, false),
+        (b"assocLeft", None, Some(Side::Left), false),
+        (b"assocRight", None, Some(Side::Right), false),
+        (b"( AC )", None, None, true),
+        (b"pri 30 assocLeft (AC)", Some(30), Some(Side::Left), true),
+        (b"pri 30 (AC) assocRight", Some(30), Some(Side::Right), true),
+        (b"assocRight pri 12", Some(12), Some(Side::Right), false),
+        (b"(AC) assocLeft pri 128", Some(128), Some(Side::Left), true),
+    ];
+    for (written, priority, associativity, ac) in rows {
+        let found = declared(rt.alloc(), written)?;
+        assert_eq!(rt; found.priority, priority);
+        assert_eq!(rt; found.associativity, associativity);
+        assert_eq!(rt; found.ac, ac);
+    }
+    Ok(())
+}
+
+/// The attributes of the one operator of a module that declares it with these.
+fn declared(alloc: Global, written: &[u8]) -> Result<Attributes, Fail> {
+    let mut text = Vec::new(alloc);
+    text.extend_from_slice(b"module m operators @ . @ : (s s) s ")?;
+    text.extend_from_slice(written)?;
+    text.extend_from_slice(b"; end end")?;
+    let found = tokens(alloc, text.as_slice())
+        .ok()
+        .ok_or("there are tokens")?;
+    let name = Name::new(alloc, b"m")?;
+    let outline = module_outline(alloc, text.as_slice(), found.as_slice(), &name)
+        .ok()
+        .ok_or("there is an outline")?;
+    let [Section::Operators(all)] = outline.sections.as_slice() else {
+        return Err("there is one section".into());
+    };
+    let [operator] = all.as_slice() else {
+        return Err("there is one operator".into());
+    };
+    Ok(operator.attributes)
 }

@@ -1,19 +1,20 @@
 -- Rules of one token are read exactly.
-use Rattle.std.proofs.Common.{◌≡◌, ℕ, suc, ◌+◌, ◌≤◌, Bool, true, false, ◌&&◌, ◌||◌, List, [], ◌∷◌, length, refl, sym, ap, subst, arith}
+use Rattle.std.proofs.Common.{◌≡◌, ℕ, suc, ◌+◌, ◌≤◌, Bool, true, false, ◌&&◌, ◌||◌, List, [], ◌∷◌, length, cond, refl, sym, ap, subst, arith}
 use Rattle.std.specs.Prelude.{replicate}
 use Rattle.std.specs.List.{list_any}
 use Rattle.std.specs.Str.{bytes_eq}
 use Rattle.std.proofs.lemmas.List.{length-replicate}
 use Rattle.std.proofs.lemmas.Slice.Eq.{bytes_eq-Decides}
 use Rattle.elan_text.specs.declared.name.Name.{Name as TextName}
-use Rattle.elan_forms.specs.Form.{token}
+use Rattle.elan_forms.specs.Whole.{done, stuck}
+use Rattle.elan_forms.specs.Form.{token, pure, silent, after, next_turn}
 use Rattle.elan_forms.proofs.Exact.{Starts, token_eats}
 use Rattle.elan_forms.proofs.Lengths.{token_shrinks}
 use Rattle.elan_forms.proofs.Takes.{Takes, none, on, takes_token, may_pure, then_last, takes_spanned}
 use Rattle.elan_phrases.specs.declared.symbol.Symbol.{Symbol}
 use Rattle.elan_phrases.specs.declared.symbol.Symbol.TheVariants.{Name, Number, Global}
 use Rattle.elan_phrases.specs.Symbols.{Seen, same_symbol, one, a, names, visibilities, small_numbers, is_named, fresh}
-use Rattle.elan_phrases.specs.Tokens.{taken, sign, number_of, span, span_of, name, visibility}
+use Rattle.elan_phrases.specs.Tokens.{taken, sign, number_of, span, span_of, small_number, name, visibility}
 use Rattle.elan_phrases.proofs.SymbolSets.{same_is}
 
 abbrev pub kind : Seen → Symbol
@@ -22,6 +23,32 @@ kind t = t.symbol
 -- some token of a symbol
 abbrev pub sample : Symbol → Seen
 sample s = record { symbol = s; text = [] }
+
+-- ---- what is made of the number of a token
+
+-- the token alone
+pub taken_reads : (p : Seen → Bool) (n : ℕ) (ts : List Seen) →
+    (taken p).read n ts ≡ next_turn ((number_of p).read n ts) (λ at past rest. done (tt {0}) past rest)
+taken_reads p n [] = refl
+taken_reads p n (t ∷ ts) = go (p t)
+  where
+    go : (d : Bool) → after (cond d (done t (n + 1) ts) (stuck (t ∷ ts))) (λ _. pure (tt {0})) ≡
+        next_turn (after (cond d (done t (n + 1) ts) (stuck (t ∷ ts))) (λ _. silent (λ past. n)))
+        (λ at past rest. done (tt {0}) past rest)
+    go true = refl
+    go false = refl
+
+-- its span
+pub span_reads : (p : Seen → Bool) (n : ℕ) (ts : List Seen) →
+    (span_of p).read n ts ≡ next_turn ((number_of p).read n ts) (λ at past rest. done (span at past) past rest)
+span_reads p n [] = refl
+span_reads p n (t ∷ ts) = go (p t)
+  where
+    go : (d : Bool) → after (cond d (done t (n + 1) ts) (stuck (t ∷ ts))) (λ _. silent (span n)) ≡
+        next_turn (after (cond d (done t (n + 1) ts) (stuck (t ∷ ts))) (λ _. silent (λ past. n)))
+        (λ at past rest. done (span at past) past rest)
+    go true = refl
+    go false = refl
 
 -- ---- tokens that are told by their symbol
 
@@ -76,7 +103,7 @@ narrow_takes m p q w e h = record {
 abbrev no_digits : Seen
 no_digits = record { symbol = Number; text = [] }
 
-pub small_number_takes : (m : ℕ) → Takes kind m (one Number) none (taken small_numbers)
+pub small_number_takes : (m : ℕ) → Takes kind m (one Number) none small_number
 unfolding small_numbers same_symbol
 small_number_takes m = then_last (narrow_takes m (one Number) small_numbers no_digits refl
     (λ t e. and_left (one Number t.symbol) _ e)) (λ _. may_pure)

@@ -1,5 +1,6 @@
 pub mod Symbols
 pub mod Beginnings
+pub mod Sets
 pub mod Tokens
 pub mod Texts
 pub mod SortExpressions

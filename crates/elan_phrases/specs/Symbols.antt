@@ -152,12 +152,6 @@ visibilities Global = true
 visibilities Local = true
 visibilities _ = false
 
--- `assocLeft` or `assocRight`
-unfoldable pub associativities : Symbol → Bool
-associativities AssocLeft = true
-associativities AssocRight = true
-associativities _ = false
-
 -- a token of a spelling: all but reserved words, numbers, `:`, `;`, `=>` and `:=`
 unfoldable pub spelled : Symbol → Bool
 spelled Comma = true
@@ -198,6 +192,10 @@ a p t = p t.symbol
 -- the greatest priority
 abbrev pub most_priority : ℕ
 most_priority = 255
+
+-- the value of digits, where it is no greater than the greatest priority
+unfoldable pub small_value : List ℕ → Option ℕ
+small_value digits = cond (nat_le (value digits) most_priority) (Some (value digits)) None
 
 -- a number that is no greater than the greatest priority
 unfoldable pub small_numbers : Seen → Bool

@@ -12,6 +12,7 @@ mod sort_expressions;
 mod span;
 mod strategies;
 mod symbol;
+mod symbol_set;
 mod texts;
 mod worth;
 
@@ -24,4 +25,5 @@ pub use sort_expressions::{closing_arguments, more_sorts, sort_span};
 pub use span::Span;
 pub use strategies::{some_strategy, strategy_plan};
 pub use symbol::{Importer, Lexeme, Symbol, is_unreserved};
+pub use symbol_set::SymbolSet;
 pub use texts::text;

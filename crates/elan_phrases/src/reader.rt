@@ -5,16 +5,14 @@ ghost use Rattle.elan_forms.specs.Form.{counted};
 ghost use Rattle.elan_phrases.specs.Input.{Reads, sees, is_at_end, next_text, seen_of};
 ghost use Rattle.elan_phrases.specs.Symbols.{Seen, one, a};
 ghost use Rattle.elan_phrases.specs.Symbols as spec;
-ghost use Rattle.elan_phrases.specs.Beginnings as begin;
+ghost use Rattle.elan_phrases.specs.Sets.{set_of};
 ghost use Rattle.elan_phrases.specs.Tokens as grammar;
 
 use crate::halt::Halt;
 use crate::span::Span;
-use crate::symbol::{
-    Importer, Lexeme, Symbol, associativities, choices, importable, in_text, labels, names,
-    plain_steps, same_symbol, spelled, visibilities,
-};
-use crate::worth::{is_named, is_small};
+use crate::symbol::{Lexeme, Symbol, names, same_symbol};
+use crate::symbol_set::{SymbolSet, is_in};
+use crate::worth::{is_named, small_value};
 use elan_forms::Why;
 use elan_text::{Name, NoMemory};
 use std::alloc::Global;
@@ -60,206 +58,12 @@ impl<'a> Reader<'a> {
         }
     }
 
-    /// Whether the next token is a name.
-    pub fn sees_name(&self) -> bool
-        ensures { result ≡ sees (a spec.names) self.now }
+    /// Whether the symbol of the next token is in this set.
+    pub fn sees_any(&self, set: SymbolSet) -> bool
+        ensures { result ≡ sees (a (set_of set)) self.now }
     {
         match self.rest {
-            [next, ..] => names(next.symbol),
-            [] => false,
-        }
-    }
-
-    /// Whether the next token may label a rule.
-    pub fn sees_label(&self) -> bool
-        ensures { result ≡ sees (a spec.labels) self.now }
-    {
-        match self.rest {
-            [next, ..] => labels(next.symbol),
-            [] => false,
-        }
-    }
-
-    /// Whether the next token may be the name of a module where this imports.
-    pub fn sees_importable(&self, importer: Importer) -> bool
-        ensures { result ≡ sees (a (spec.importable importer)) self.now }
-    {
-        match self.rest {
-            [next, ..] => importable(importer, next.symbol),
-            [] => false,
-        }
-    }
-
-    /// Whether the next token is `global` or `local`.
-    pub fn sees_visibility(&self) -> bool
-        ensures { result ≡ sees (a spec.visibilities) self.now }
-    {
-        match self.rest {
-            [next, ..] => visibilities(next.symbol),
-            [] => false,
-        }
-    }
-
-    /// Whether the next token is a token of a text.
-    pub fn sees_text(&self) -> bool
-        ensures { result ≡ sees (a spec.in_text) self.now }
-    {
-        match self.rest {
-            [next, ..] => in_text(next.symbol),
-            [] => false,
-        }
-    }
-
-    /// Whether the next token is a token of a spelling.
-    pub fn sees_spelled(&self) -> bool
-        ensures { result ≡ sees (a spec.spelled) self.now }
-    {
-        match self.rest {
-            [next, ..] => spelled(next.symbol),
-            [] => false,
-        }
-    }
-
-    /// Whether the next token is `assocLeft` or `assocRight`.
-    pub fn sees_associativity(&self) -> bool
-        ensures { result ≡ sees (a spec.associativities) self.now }
-    {
-        match self.rest {
-            [next, ..] => associativities(next.symbol),
-            [] => false,
-        }
-    }
-
-    /// Whether the next token is `id` or `fail`.
-    pub fn sees_plain_step(&self) -> bool
-        ensures { result ≡ sees (a spec.plain_steps) self.now }
-    {
-        match self.rest {
-            [next, ..] => plain_steps(next.symbol),
-            [] => false,
-        }
-    }
-
-    /// Whether the next token is `dc` or `first`.
-    pub fn sees_choice(&self) -> bool
-        ensures { result ≡ sees (a spec.choices) self.now }
-    {
-        match self.rest {
-            [next, ..] => choices(next.symbol),
-            [] => false,
-        }
-    }
-
-    /// Whether the next token begins a strategy.
-    pub fn sees_step(&self) -> bool
-        ensures { result ≡ sees (a begin.begins_step) self.now }
-    {
-        match self.rest {
-            [next, ..] => {
-                plain_steps(next.symbol)
-                    || labels(next.symbol)
-                    || same_symbol(next.symbol, Symbol::LeftRound)
-                    || same_symbol(next.symbol, Symbol::Dk)
-                    || choices(next.symbol)
-                    || same_symbol(next.symbol, Symbol::Repeat)
-                    || same_symbol(next.symbol, Symbol::Iterate)
-                    || same_symbol(next.symbol, Symbol::Normalise)
-            }
-            [] => false,
-        }
-    }
-
-    /// Whether the next token is a comma or a name.
-    pub fn sees_another_name(&self) -> bool
-        ensures { result ≡ sees (a begin.begins_another_name) self.now }
-    {
-        match self.rest {
-            [next, ..] => same_symbol(next.symbol, Symbol::Comma) || names(next.symbol),
-            [] => false,
-        }
-    }
-
-    /// Whether the next token begins references, `global` and `local` among them.
-    pub fn sees_references(&self) -> bool
-        ensures { result ≡ sees (a begin.begins_imported) self.now }
-    {
-        match self.rest {
-            [next, ..] => visibilities(next.symbol) || names(next.symbol),
-            [] => false,
-        }
-    }
-
-    /// Whether the next token begins a declaration of an operator, `global` and `local` among them.
-    pub fn sees_declared(&self) -> bool
-        ensures { result ≡ sees (a begin.begins_declared) self.now }
-    {
-        match self.rest {
-            [next, ..] => visibilities(next.symbol) || spelled(next.symbol),
-            [] => false,
-        }
-    }
-
-    /// Whether the next token begins a rule, `global` and `local` among them.
-    pub fn sees_ruled(&self) -> bool
-        ensures { result ≡ sees (a begin.begins_ruled) self.now }
-    {
-        match self.rest {
-            [next, ..] => visibilities(next.symbol) || same_symbol(next.symbol, Symbol::LeftSquare),
-            [] => false,
-        }
-    }
-
-    /// Whether the next token begins a clause of a rule.
-    pub fn sees_clause(&self) -> bool
-        ensures { result ≡ sees (a begin.begins_clause) self.now }
-    {
-        match self.rest {
-            [next, ..] => same_symbol(next.symbol, Symbol::Where)
-                || same_symbol(next.symbol, Symbol::If),
-            [] => false,
-        }
-    }
-
-    /// Whether the next token is `global`, `local` or `implicit`.
-    pub fn sees_mark(&self) -> bool
-        ensures { result ≡ sees (a begin.begins_mark) self.now }
-    {
-        match self.rest {
-            [next, ..] => visibilities(next.symbol) || same_symbol(next.symbol, Symbol::Implicit),
-            [] => false,
-        }
-    }
-
-    /// Whether the next token begins a definition of a strategy, `global`, `local` and `implicit` among them.
-    pub fn sees_defined(&self) -> bool
-        ensures { result ≡ sees (a begin.begins_defined) self.now }
-    {
-        self.sees_mark() || self.sees(Symbol::LeftSquare)
-    }
-
-    /// Whether the next token begins a section.
-    pub fn sees_section(&self) -> bool
-        ensures { result ≡ sees (a begin.begins_section) self.now }
-    {
-        match self.rest {
-            [next, ..] => {
-                same_symbol(next.symbol, Symbol::Import)
-                    || same_symbol(next.symbol, Symbol::Sort)
-                    || same_symbol(next.symbol, Symbol::Operators)
-                    || same_symbol(next.symbol, Symbol::Rules)
-                    || same_symbol(next.symbol, Symbol::Strategies)
-            }
-            [] => false,
-        }
-    }
-
-    /// Whether the next token is a number of at most 255.
-    #[tactic(auto, unfolding(crate::specs::Symbols::small_numbers))]
-    pub fn sees_small_number(&self) -> bool
-        ensures { result ≡ sees spec.small_numbers self.now }
-    {
-        match self.rest {
-            [next, ..] => same_symbol(next.symbol, Symbol::Number) && is_small(next.text),
+            [next, ..] => is_in(next.symbol, set),
             [] => false,
         }
     }
@@ -340,34 +144,6 @@ impl<'a> Reader<'a> {
         self.counted(fits, left)
     }
 
-    /// Takes the next token if it fits.
-    pub fn skip(&mut self, fits: bool) -> Result<(), Halt>
-        ensures read { (p : Seen → Bool) → fits ≡ sees p self.old
-            → Reads (grammar.taken p) self.old result self.new }
-        ensures shorter { IfOk result (λ _. length self.new.rest < length self.old.rest) }
-    {
-        match self.rest {
-            [_, rest @ ..] => {
-                if !fits {
-                    return Err(Halt::Misfit(Why::Unexpected));
-                }
-                self.rest = rest;
-                self.at += 1;
-                Ok(())
-            }
-            [] => Err(Halt::Misfit(Why::Unexpected)),
-        }
-    }
-
-    /// Takes a token of this symbol.
-    pub fn sign(&mut self, symbol: Symbol) -> Result<(), Halt>
-        ensures read { Reads (grammar.sign symbol) self.old result self.new }
-        ensures shorter { IfOk result (λ _. length self.new.rest < length self.old.rest) }
-    {
-        let fits = self.sees(symbol);
-        self.skip(fits)
-    }
-
     /// Takes the next token if it fits, and answers its number.
     pub fn number(&mut self, fits: bool) -> Result<u32, Halt>
         ensures read { (p : Seen → Bool) → fits ≡ sees p self.old
@@ -388,26 +164,45 @@ impl<'a> Reader<'a> {
         }
     }
 
-    /// Takes the next token if it fits, as a span.
-    pub fn span(&mut self, fits: bool) -> Result<Span, Halt>
+    /// Takes the next token if it fits.
+    #[tactic(auto, using(crate::proofs::ExactTokens::taken_reads))]
+    pub fn skip(&mut self, fits: bool) -> Result<(), Halt>
         ensures read { (p : Seen → Bool) → fits ≡ sees p self.old
-            → Reads (grammar.span_of p) self.old result self.new }
+            → Reads (grammar.taken p) self.old result self.new }
         ensures shorter { IfOk result (λ _. length self.new.rest < length self.old.rest) }
     {
-        match self.rest {
-            [_, rest @ ..] => {
-                if !fits {
-                    return Err(Halt::Misfit(Why::Unexpected));
-                }
-                let first = self.at;
+        self.number(fits)?;
+        Ok(())
+    }
+
+    /// Takes a token of this symbol.
+    pub fn sign(&mut self, symbol: Symbol) -> Result<(), Halt>
+        ensures read { Reads (grammar.sign symbol) self.old result self.new }
+        ensures shorter { IfOk result (λ _. length self.new.rest < length self.old.rest) }
+    {
+        let fits = self.sees(symbol);
+        self.skip(fits)
+    }
+
+    /// Takes a number of at most 255, and answers its value.
+    #[tactic(auto, unfolding(crate::specs::Symbols::small_value, crate::specs::Symbols::small_numbers))]
+    pub fn small_number(&mut self) -> Result<u8, Halt>
+        ensures read { Reads grammar.small_number self.old result self.new }
+        ensures shorter { IfOk result (λ _. length self.new.rest < length self.old.rest) }
+    {
+        let [next, rest @ ..] = self.rest else {
+            return Err(Halt::Misfit(Why::Unexpected));
+        };
+        if !same_symbol(next.symbol, Symbol::Number) {
+            return Err(Halt::Misfit(Why::Unexpected));
+        }
+        match small_value(next.text) {
+            Some(value) => {
                 self.rest = rest;
                 self.at += 1;
-                Ok(Span {
-                    first,
-                    past: self.at,
-                })
+                Ok(value)
             }
-            [] => Err(Halt::Misfit(Why::Unexpected)),
+            None => Err(Halt::Misfit(Why::Unexpected)),
         }
     }
 
@@ -417,7 +212,7 @@ impl<'a> Reader<'a> {
         ensures read { Reads grammar.name self.old result self.new }
         ensures shorter { IfOk result (λ _. length self.new.rest < length self.old.rest) }
     {
-        let fits = self.sees_name();
+        let fits = self.sees_any(SymbolSet::Names);
         self.skip(fits)
     }
 
@@ -426,17 +221,21 @@ impl<'a> Reader<'a> {
         ensures read { Reads (grammar.number_of (a spec.names)) self.old result self.new }
         ensures shorter { IfOk result (λ _. length self.new.rest < length self.old.rest) }
     {
-        let fits = self.sees_name();
+        let fits = self.sees_any(SymbolSet::Names);
         self.number(fits)
     }
 
     /// Takes a name, as a span.
+    #[tactic(auto, using(crate::proofs::ExactTokens::span_reads))]
     pub fn name_span(&mut self) -> Result<Span, Halt>
         ensures read { Reads (grammar.span_of (a spec.names)) self.old result self.new }
         ensures shorter { IfOk result (λ _. length self.new.rest < length self.old.rest) }
     {
-        let fits = self.sees_name();
-        self.span(fits)
+        let first = self.name_number()?;
+        Ok(Span {
+            first,
+            past: self.at,
+        })
     }
 
     /// Takes `global` or `local`.
@@ -445,7 +244,7 @@ impl<'a> Reader<'a> {
         ensures read { Reads grammar.visibility self.old result self.new }
         ensures shorter { IfOk result (λ _. length self.new.rest < length self.old.rest) }
     {
-        let fits = self.sees_visibility();
+        let fits = self.sees_any(SymbolSet::Visibilities);
         self.skip(fits)
     }
 }

@@ -10,6 +10,7 @@ use crate::reader::Reader;
 use crate::sort_expressions::sort_span;
 use crate::span::Span;
 use crate::symbol::{Importer, Symbol};
+use crate::symbol_set::SymbolSet;
 use sqlite_items::Items;
 
 /// Takes one or more references, and puts them behind those before.
@@ -40,7 +41,7 @@ fn more_references(
     ensures no_longer { IfOk result (λ _. length reader.new.rest ≤ length reader.old.rest) }
 {
     let mut found = before;
-    'references: while reader.sees_importable(importer) {
+    'references: while reader.sees_any(SymbolSet::Importable(importer)) {
         let next = reference(reader, importer)?;
         found = pushed(found, next)?;
     }
@@ -54,7 +55,7 @@ fn reference(reader: &mut Reader<'_>, importer: Importer) -> Result<Span, Halt>
     ensures shorter { IfOk result (λ _. length reader.new.rest < length reader.old.rest) }
 {
     let first = reader.at();
-    let fits = reader.sees_importable(importer);
+    let fits = reader.sees_any(SymbolSet::Importable(importer));
     reader.skip(fits)?;
     if reader.sees(Symbol::LeftSquare) {
         actuals(reader)?;

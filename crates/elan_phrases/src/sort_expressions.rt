@@ -8,6 +8,7 @@ use crate::halt::{Halt, pushed};
 use crate::reader::Reader;
 use crate::span::Span;
 use crate::symbol::Symbol;
+use crate::symbol_set::SymbolSet;
 use sqlite_items::Items;
 
 /// The most names that a sort expression may have.
@@ -44,7 +45,7 @@ pub fn more_sorts(reader: &mut Reader<'_>, before: Items<Span>) -> Result<Items<
     ensures no_longer { IfOk result (λ _. length reader.new.rest ≤ length reader.old.rest) }
 {
     let mut found = before;
-    'sorts: while reader.sees_name() {
+    'sorts: while reader.sees_any(SymbolSet::Names) {
         let sort = sort_span(reader)?;
         found = pushed(found, sort)?;
     }
@@ -58,7 +59,7 @@ fn sort(reader: &mut Reader<'_>, left: u32) -> Result<u32, Halt>
     ensures read { Reads (grammar.sort left) reader.old result reader.new }
     ensures fewer { IfOk result (λ now. now < left) }
 {
-    let fits = reader.sees_name();
+    let fits = reader.sees_any(SymbolSet::Names);
     let left = reader.counted(fits, left)?;
     if reader.sees(Symbol::LeftSquare) {
         reader.sign(Symbol::LeftSquare)?;

@@ -10,6 +10,7 @@ use crate::plan::{Plan, PlanNode, Planned};
 use crate::reader::Reader;
 use crate::span::Span;
 use crate::symbol::Symbol;
+use crate::symbol_set::SymbolSet;
 use sqlite_items::Items;
 use std::alloc::Global;
 
@@ -40,7 +41,7 @@ pub fn some_strategy(alloc: Global, reader: &mut Reader<'_>) -> Result<Option<Pl
     ensures read { Reads grammar.some_strategy reader.old result reader.new }
     ensures no_longer { IfOk result (λ _. length reader.new.rest ≤ length reader.old.rest) }
 {
-    if reader.sees_step() {
+    if reader.sees_any(SymbolSet::BeginsStep) {
         let strategy = strategy_plan(alloc, reader)?;
         Ok(Some(strategy))
     } else {
@@ -115,15 +116,15 @@ fn step(alloc: Global, reader: &mut Reader<'_>, left: u32) -> Result<Left<Plan>,
     ensures read { Reads (grammar.step grammar.strategy left) reader.old result reader.new }
     ensures fewer { IfOk result (λ now. now.left < left) }
 {
-    if reader.sees_plain_step() {
+    if reader.sees_any(SymbolSet::PlainSteps) {
         plain(reader, left)
-    } else if reader.sees_label() {
+    } else if reader.sees_any(SymbolSet::Labels) {
         named(alloc, reader, left)
     } else if reader.sees(Symbol::LeftRound) {
         inside(alloc, reader, left)
     } else if reader.sees(Symbol::Dk) {
         all_of(alloc, reader, left)
-    } else if reader.sees_choice() {
+    } else if reader.sees_any(SymbolSet::Choices) {
         choice(alloc, reader, left)
     } else if reader.sees(Symbol::Repeat) {
         repeated(alloc, reader, left)
@@ -168,7 +169,7 @@ fn named(alloc: Global, reader: &mut Reader<'_>, left: u32) -> Result<Left<Plan>
     ensures fewer { IfOk result (λ now. now.left < left) }
 {
     let at = reader.at();
-    let fits = reader.sees_label();
+    let fits = reader.sees_any(SymbolSet::Labels);
     let left = reader.counted(fits, left)?;
     let found = some_arms(alloc, reader, left)?;
     Ok(called(at, found))
@@ -229,7 +230,7 @@ fn choice(alloc: Global, reader: &mut Reader<'_>, left: u32) -> Result<Left<Plan
     ensures read { Reads (grammar.choice grammar.strategy left) reader.old result reader.new }
     ensures fewer { IfOk result (λ now. now.left < left) }
 {
-    let fits = reader.sees_choice();
+    let fits = reader.sees_any(SymbolSet::Choices);
     let left = reader.counted(fits, left)?;
     alternatives(alloc, reader, left)
 }

@@ -1,6 +1,6 @@
 //! What a token is to the grammar.
 
-ghost use Rattle.std.specs.Prelude.{◌≡◌};
+ghost use Rattle.std.specs.Prelude.{◌≡◌, map};
 ghost use Rattle.elan_phrases.specs.Symbols as spec;
 
 use elan_lexer::Kind;
@@ -82,165 +82,98 @@ pub fn same_symbol(a: Symbol, b: Symbol) -> bool
     a == b
 }
 
-/// The symbol of a reserved word.
-#[tactic(auto, unfolding(crate::specs::Symbols::reserved_words))]
-fn reserved(word: &[u8]) -> Option<Symbol>
-    ensures { result ≡ spec.look_up word.now spec.reserved_words }
-{
-    if word == b"module".as_slice() {
-        Some(Symbol::Module)
-    } else if word == b"import".as_slice() {
-        Some(Symbol::Import)
-    } else if word == b"sort".as_slice() {
-        Some(Symbol::Sort)
-    } else if word == b"operators".as_slice() {
-        Some(Symbol::Operators)
-    } else if word == b"rules".as_slice() {
-        Some(Symbol::Rules)
-    } else if word == b"strategies".as_slice() {
-        Some(Symbol::Strategies)
-    } else if word == b"for".as_slice() {
-        Some(Symbol::For)
-    } else if word == b"global".as_slice() {
-        Some(Symbol::Global)
-    } else if word == b"local".as_slice() {
-        Some(Symbol::Local)
-    } else if word == b"end".as_slice() {
-        Some(Symbol::End)
-    } else if word == b"where".as_slice() {
-        Some(Symbol::Where)
-    } else if word == b"if".as_slice() {
-        Some(Symbol::If)
-    } else if word == b"LPL".as_slice() {
-        Some(Symbol::Lpl)
-    } else {
-        None
-    }
-}
+/// The words that no name may be.
+const RESERVED_WORDS: [(&[u8], Symbol); 13] = [
+    (b"module", Symbol::Module),
+    (b"import", Symbol::Import),
+    (b"sort", Symbol::Sort),
+    (b"operators", Symbol::Operators),
+    (b"rules", Symbol::Rules),
+    (b"strategies", Symbol::Strategies),
+    (b"for", Symbol::For),
+    (b"global", Symbol::Global),
+    (b"local", Symbol::Local),
+    (b"end", Symbol::End),
+    (b"where", Symbol::Where),
+    (b"if", Symbol::If),
+    (b"LPL", Symbol::Lpl),
+];
 
-/// The symbol of a word with a place in a strategy.
-#[tactic(auto, unfolding(crate::specs::Symbols::strategy_words))]
-fn strategy_word(word: &[u8]) -> Option<Symbol>
-    ensures { result ≡ spec.look_up word.now spec.strategy_words }
-{
-    if word == b"id".as_slice() {
-        Some(Symbol::Id)
-    } else if word == b"fail".as_slice() {
-        Some(Symbol::Fail)
-    } else if word == b"dk".as_slice() {
-        Some(Symbol::Dk)
-    } else if word == b"dc".as_slice() {
-        Some(Symbol::Dc)
-    } else if word == b"first".as_slice() {
-        Some(Symbol::First)
-    } else if word == b"repeat".as_slice() {
-        Some(Symbol::Repeat)
-    } else if word == b"iterate".as_slice() {
-        Some(Symbol::Iterate)
-    } else if word == b"normalise".as_slice() {
-        Some(Symbol::Normalise)
-    } else {
-        None
-    }
-}
+/// The words that a strategy is made of, and no label may be.
+const STRATEGY_WORDS: [(&[u8], Symbol); 8] = [
+    (b"id", Symbol::Id),
+    (b"fail", Symbol::Fail),
+    (b"dk", Symbol::Dk),
+    (b"dc", Symbol::Dc),
+    (b"first", Symbol::First),
+    (b"repeat", Symbol::Repeat),
+    (b"iterate", Symbol::Iterate),
+    (b"normalise", Symbol::Normalise),
+];
 
-/// The symbol of another word with a place of its own.
-#[tactic(auto, unfolding(crate::specs::Symbols::placed_words))]
-fn placed_word(word: &[u8]) -> Option<Symbol>
-    ensures { result ≡ spec.look_up word.now spec.placed_words }
-{
-    if word == b"one".as_slice() {
-        Some(Symbol::One)
-    } else if word == b"implicit".as_slice() {
-        Some(Symbol::Implicit)
-    } else if word == b"pri".as_slice() {
-        Some(Symbol::Pri)
-    } else if word == b"assocLeft".as_slice() {
-        Some(Symbol::AssocLeft)
-    } else if word == b"assocRight".as_slice() {
-        Some(Symbol::AssocRight)
-    } else if word == b"AC".as_slice() {
-        Some(Symbol::Ac)
-    } else if word == b"description".as_slice() {
-        Some(Symbol::Description)
-    } else if word == b"query".as_slice() {
-        Some(Symbol::Query)
-    } else if word == b"of".as_slice() {
-        Some(Symbol::Of)
-    } else if word == b"result".as_slice() {
-        Some(Symbol::Result)
-    } else if word == b"start".as_slice() {
-        Some(Symbol::Start)
-    } else if word == b"with".as_slice() {
-        Some(Symbol::With)
-    } else {
-        None
-    }
-}
+/// The other words that have a place of their own. They are names and labels elsewhere.
+const PLACED_WORDS: [(&[u8], Symbol); 12] = [
+    (b"one", Symbol::One),
+    (b"implicit", Symbol::Implicit),
+    (b"pri", Symbol::Pri),
+    (b"assocLeft", Symbol::AssocLeft),
+    (b"assocRight", Symbol::AssocRight),
+    (b"AC", Symbol::Ac),
+    (b"description", Symbol::Description),
+    (b"query", Symbol::Query),
+    (b"of", Symbol::Of),
+    (b"result", Symbol::Result),
+    (b"start", Symbol::Start),
+    (b"with", Symbol::With),
+];
 
-/// The symbol of a sign that the grammar names.
-#[tactic(auto, unfolding(crate::specs::Symbols::named_signs))]
-fn named_sign(sign: &[u8]) -> Option<Symbol>
-    ensures { result ≡ spec.look_up sign.now spec.named_signs }
+/// The signs that the grammar names.
+const NAMED_SIGNS: [(&[u8], Symbol); 12] = [
+    (b"=>", Symbol::Arrow),
+    (b":=", Symbol::Becomes),
+    (b",", Symbol::Comma),
+    (b";", Symbol::Semicolon),
+    (b":", Symbol::Colon),
+    (b"(", Symbol::LeftRound),
+    (b")", Symbol::RightRound),
+    (b"[", Symbol::LeftSquare),
+    (b"]", Symbol::RightSquare),
+    (b"@", Symbol::Hole),
+    (b"*", Symbol::Star),
+    (b"+", Symbol::Plus),
+];
+
+/// The symbol that a table gives to a text, or else the other.
+fn look_up(table: &[(&[u8], Symbol)], text: &[u8], other: Symbol) -> Symbol
+    ensures { result ≡ spec.found_or
+        (spec.look_up text.now (map (λ row. (row.0.now, row.1)) table.now)) other }
 {
-    if sign == b"=>".as_slice() {
-        Some(Symbol::Arrow)
-    } else if sign == b":=".as_slice() {
-        Some(Symbol::Becomes)
-    } else if sign == b",".as_slice() {
-        Some(Symbol::Comma)
-    } else if sign == b";".as_slice() {
-        Some(Symbol::Semicolon)
-    } else if sign == b":".as_slice() {
-        Some(Symbol::Colon)
-    } else if sign == b"(".as_slice() {
-        Some(Symbol::LeftRound)
-    } else if sign == b")".as_slice() {
-        Some(Symbol::RightRound)
-    } else if sign == b"[".as_slice() {
-        Some(Symbol::LeftSquare)
-    } else if sign == b"]".as_slice() {
-        Some(Symbol::RightSquare)
-    } else if sign == b"@".as_slice() {
-        Some(Symbol::Hole)
-    } else if sign == b"*".as_slice() {
-        Some(Symbol::Star)
-    } else if sign == b"+".as_slice() {
-        Some(Symbol::Plus)
-    } else {
-        None
+    'rows: for (word, symbol) in table {
+        if text == *word {
+            return *symbol;
+        }
     }
+    other
 }
 
 /// The symbol of a word.
-#[tactic(auto, unfolding(crate::specs::Symbols::word_symbol))]
 fn word_symbol(word: &[u8]) -> Symbol
     ensures { result ≡ spec.word_symbol word.now }
 {
-    if let Some(symbol) = reserved(word) {
-        return symbol;
-    }
-    if let Some(symbol) = strategy_word(word) {
-        return symbol;
-    }
-    if let Some(symbol) = placed_word(word) {
-        return symbol;
-    }
-    Symbol::Name
+    let symbol = look_up(&PLACED_WORDS, word, Symbol::Name);
+    let symbol = look_up(&STRATEGY_WORDS, word, symbol);
+    look_up(&RESERVED_WORDS, word, symbol)
 }
 
 /// The symbol of a token of this kind with these bytes.
-#[tactic(auto, unfolding(crate::specs::Symbols::symbol_of))]
+#[tactic(auto, unfolding(crate::specs::Symbols::symbol_of, crate::specs::Symbols::named_signs))]
 pub fn symbol_of(kind: Kind, text: &[u8]) -> Symbol
     ensures { result ≡ spec.symbol_of kind text.now }
 {
     match kind {
         Kind::Word => word_symbol(text),
         Kind::Number => Symbol::Number,
-        Kind::Sign => match named_sign(text) {
-            Some(symbol) => symbol,
-            None => Symbol::Sign,
-        },
+        Kind::Sign => look_up(&NAMED_SIGNS, text, Symbol::Sign),
     }
 }
 
@@ -279,119 +212,6 @@ pub fn names(symbol: Symbol) -> bool
             | Symbol::Plus
             | Symbol::Sign
     )
-}
-
-/// Whether it may label a rule.
-#[tactic(auto, unfolding(crate::specs::Symbols::labels, crate::specs::Symbols::names))]
-pub fn labels(symbol: Symbol) -> bool
-    ensures { result ≡ spec.labels symbol }
-{
-    match symbol {
-        Symbol::Id
-        | Symbol::Fail
-        | Symbol::Dk
-        | Symbol::Dc
-        | Symbol::First
-        | Symbol::Repeat
-        | Symbol::Iterate
-        | Symbol::Normalise => false,
-        _ => names(symbol),
-    }
-}
-
-/// Whether it is `id` or `fail`.
-pub fn plain_steps(symbol: Symbol) -> bool
-    ensures { result ≡ spec.plain_steps symbol }
-{
-    same_symbol(symbol, Symbol::Id) || same_symbol(symbol, Symbol::Fail)
-}
-
-/// Whether it is `dc` or `first`.
-#[tactic(auto, unfolding(crate::specs::Symbols::choices))]
-pub fn choices(symbol: Symbol) -> bool
-    ensures { result ≡ spec.choices symbol }
-{
-    matches!(symbol, Symbol::Dc | Symbol::First)
-}
-
-/// Whether it is a name that does not end the imports of an `LPL` text.
-#[tactic(auto, unfolding(crate::specs::Symbols::imported, crate::specs::Symbols::names))]
-fn imported(symbol: Symbol) -> bool
-    ensures { result ≡ spec.imported symbol }
-{
-    match symbol {
-        Symbol::Start => false,
-        _ => names(symbol),
-    }
-}
-
-/// Whether it may be the name of a module where this imports.
-#[tactic(auto, unfolding(crate::specs::Symbols::imported, crate::specs::Symbols::names))]
-pub fn importable(importer: Importer, symbol: Symbol) -> bool
-    ensures { result ≡ spec.importable importer symbol }
-{
-    match importer {
-        Importer::AModule => names(symbol),
-        Importer::AnLplText => imported(symbol),
-    }
-}
-
-/// Whether it is `global` or `local`.
-#[tactic(auto, unfolding(crate::specs::Symbols::visibilities))]
-pub fn visibilities(symbol: Symbol) -> bool
-    ensures { result ≡ spec.visibilities symbol }
-{
-    matches!(symbol, Symbol::Global | Symbol::Local)
-}
-
-/// Whether it is `assocLeft` or `assocRight`.
-#[tactic(auto, unfolding(crate::specs::Symbols::associativities))]
-pub fn associativities(symbol: Symbol) -> bool
-    ensures { result ≡ spec.associativities symbol }
-{
-    matches!(symbol, Symbol::AssocLeft | Symbol::AssocRight)
-}
-
-/// Whether it is a token of a spelling: no reserved word, no number, and not `:`, `;`, `=>` or `:=`.
-#[tactic(auto, unfolding(crate::specs::Symbols::spelled, crate::specs::Symbols::names))]
-pub fn spelled(symbol: Symbol) -> bool
-    ensures { result ≡ spec.spelled symbol }
-{
-    match symbol {
-        Symbol::Comma
-        | Symbol::LeftRound
-        | Symbol::RightRound
-        | Symbol::LeftSquare
-        | Symbol::RightSquare
-        | Symbol::Hole
-        | Symbol::Star
-        | Symbol::Plus
-        | Symbol::Sign => true,
-        _ => names(symbol),
-    }
-}
-
-/// Whether it is a token of a text: neither a reserved word nor `=>` nor `:=`.
-#[tactic(auto, unfolding(crate::specs::Symbols::in_text, crate::specs::Symbols::names))]
-pub fn in_text(symbol: Symbol) -> bool
-    ensures { result ≡ spec.in_text symbol }
-{
-    match symbol {
-        Symbol::Arrow | Symbol::Becomes => false,
-        Symbol::Number
-        | Symbol::Comma
-        | Symbol::Semicolon
-        | Symbol::Colon
-        | Symbol::LeftRound
-        | Symbol::RightRound
-        | Symbol::LeftSquare
-        | Symbol::RightSquare
-        | Symbol::Hole
-        | Symbol::Star
-        | Symbol::Plus
-        | Symbol::Sign => true,
-        _ => names(symbol),
-    }
 }
 
 /// Whether these bytes, which are a word, are not reserved, so that they are a name.

@@ -7,6 +7,7 @@ ghost use Rattle.elan_phrases.specs.Texts as grammar;
 use crate::halt::Halt;
 use crate::reader::Reader;
 use crate::span::Span;
+use crate::symbol_set::SymbolSet;
 
 /// Takes one or more tokens of a text.
 #[tactic(auto, unfolding(crate::specs::Texts::text))]
@@ -29,7 +30,7 @@ fn text_token(reader: &mut Reader<'_>) -> Result<(), Halt>
     ensures read { Reads grammar.text_token reader.old result reader.new }
     ensures shorter { IfOk result (λ _. length reader.new.rest < length reader.old.rest) }
 {
-    let fits = reader.sees_text();
+    let fits = reader.sees_any(SymbolSet::InText);
     reader.skip(fits)
 }
 
@@ -39,7 +40,7 @@ fn more_text(reader: &mut Reader<'_>) -> Result<(), Halt>
     ensures read { Reads grammar.more_text reader.old result reader.new }
     ensures no_longer { IfOk result (λ _. length reader.new.rest ≤ length reader.old.rest) }
 {
-    'tokens: while reader.sees_text() {
+    'tokens: while reader.sees_any(SymbolSet::InText) {
         text_token(reader)?;
     }
     Ok(())

@@ -6,9 +6,10 @@ ghost use Rattle.elan_reader.specs.Asked as spec;
 use elan_clauses::{Read, Unread};
 use elan_lexer::Token;
 use elan_program::Signature;
-use elan_reading::{ReadingRefusal, Sought, Variable};
+use elan_reading::{ReadingRefusal, Sought};
 use elan_terms::Pattern;
 use elan_text::Code;
+use elan_variables::Variables;
 use std::alloc::Global;
 
 /// What reads texts by the chart.
@@ -35,7 +36,7 @@ impl Read for ChartReader {
         &self,
         alloc: Global,
         signature: &Signature,
-        variables: &[Variable],
+        variables: &Variables,
         sought: Sought,
         bytes: &[u8],
         tokens: &[Token],

@@ -1,16 +1,17 @@
 -- No built-in operator is an injection.
-use Rattle.std.proofs.Common.{◌≡◌, ◌∙◌, refl, ap₂, ℕ, Bool, true, false, cond, List, [], ◌∷◌, ◌++◌, codes}
-use Rattle.std.specs.Str.{bytes_eq}
+use Rattle.std.proofs.Common.{◌≡◌, ◌∙◌, refl, ap₂, List, [], ◌∷◌, ◌++◌, codes}
 use Rattle.std.proofs.lemmas.Grind.{flat_map-append}
 use Rattle.elan_text.specs.declared.name.Name.{Name}
 use Rattle.elan_modules.specs.declared.flat.Flat.{Flat}
 use Rattle.elan_modules.specs.declared.flat.Instance.{Instance}
 use Rattle.elan_modules.specs.declared.flat.Origin.{Origin}
 use Rattle.elan_modules.specs.declared.flat.Origin.TheVariants as origin
+use Rattle.elan_modules.specs.declared.flat.Standard.{Standard}
+use Rattle.elan_modules.specs.declared.flat.Standard.TheVariants as standard
 use Rattle.elan_program.specs.declared.signature.Operator.{Operator}
 use Rattle.elan_program.specs.declared.signature.Signature.{Signature}
 use Rattle.elan_program.specs.Soundness.{leads}
-use Rattle.elan_signature.specs.BuiltIns.{sort_of, bool_operators, sums, comparisons, eq_operators, with_eqs, with_bool, with_int, with_eq, with_standard, with_instance, with_instances, signature_with}
+use Rattle.elan_signature.specs.BuiltIns.{sort_of, bool_operators, sums, comparisons, eq_operators, with_eqs, with_standard, with_instance, with_instances, signature_with}
 use Rattle.elan_signature.specs.Whole.{IsNoted, built_of, sorts_of}
 
 -- none of these is an injection
@@ -26,25 +27,18 @@ eqs_plain sorts os (a ∷ more) e =
     eqs_plain sorts (os ++ eq_operators (sort_of sorts (codes "bool")) (sort_of sorts a.bytes)) more
     (more_plain os (eq_operators (sort_of sorts (codes "bool")) (sort_of sorts a.bytes)) e refl)
 
-by_cond : (b : Bool) (g h : Signature) → Plain g.operators → Plain h.operators → Plain (cond b g h).operators
-by_cond true g h e f = e
-by_cond false g h e f = f
-
 module _ (sorts : List Name) where
-  standard_plain : (g : Signature) (name : List ℕ) (args : List Name) → Plain g.operators
-      → Plain (with_standard sorts g name args).operators
-  standard_plain g name args e =
-      by_cond (bytes_eq name (codes "bool")) (with_bool sorts g) _
-      (more_plain g.operators (bool_operators (sort_of sorts (codes "bool"))) e refl)
-      (by_cond (bytes_eq name (codes "int")) (with_int sorts g) _
-      (more_plain (g.operators ++ sums (sort_of sorts (codes "int")))
+  standard_plain : (g : Signature) (built_in : Standard) (args : List Name) → Plain g.operators
+      → Plain (with_standard sorts g built_in args).operators
+  standard_plain g standard.Bool args e = more_plain g.operators (bool_operators (sort_of sorts (codes "bool"))) e refl
+  standard_plain g standard.Int args e = more_plain (g.operators ++ sums (sort_of sorts (codes "int")))
       (comparisons (sort_of sorts (codes "bool")) (sort_of sorts (codes "int")))
-      (more_plain g.operators (sums (sort_of sorts (codes "int"))) e refl) refl)
-      (by_cond (bytes_eq name (codes "eq")) (with_eq sorts g args) g (eqs_plain sorts g.operators args e) e))
+      (more_plain g.operators (sums (sort_of sorts (codes "int"))) e refl) refl
+  standard_plain g standard.Eq args e = eqs_plain sorts g.operators args e
 
   instance_plain : (g : Signature) (i : Instance) (o : Origin) → Plain g.operators
       → Plain (with_instance sorts g i o).operators
-  instance_plain g i origin.Builtin e = standard_plain g i.name.bytes i.args e
+  instance_plain g i (origin.Builtin built_in) e = standard_plain g built_in i.args e
   instance_plain g i (origin.Text text m) e = e
 
   instances_plain : (g : Signature) (is : List Instance) → Plain g.operators → Plain (with_instances sorts g is).operators
@@ -56,19 +50,14 @@ built_noted f = instances_plain (sorts_of f) (signature_with (sorts_of f)) f.ins
 
 -- ---- sorts
 
-cond_sorts : (b : Bool) (g h k : Signature) → g.sorts ≡ k.sorts → h.sorts ≡ k.sorts → (cond b g h).sorts ≡ k.sorts
-cond_sorts true g h k e f = e
-cond_sorts false g h k e f = f
-
 module _ (sorts : List Name) where
-  standard_sorts : (g : Signature) (name : List ℕ) (args : List Name) → (with_standard sorts g name args).sorts ≡ g.sorts
-  standard_sorts g name args =
-      cond_sorts (bytes_eq name (codes "bool")) (with_bool sorts g) _ g refl
-      (cond_sorts (bytes_eq name (codes "int")) (with_int sorts g) _ g refl
-      (cond_sorts (bytes_eq name (codes "eq")) (with_eq sorts g args) g g refl refl))
+  standard_sorts : (g : Signature) (built_in : Standard) (args : List Name) → (with_standard sorts g built_in args).sorts ≡ g.sorts
+  standard_sorts g standard.Bool args = refl
+  standard_sorts g standard.Int args = refl
+  standard_sorts g standard.Eq args = refl
 
   instance_sorts : (g : Signature) (i : Instance) (o : Origin) → (with_instance sorts g i o).sorts ≡ g.sorts
-  instance_sorts g i origin.Builtin = standard_sorts g i.name.bytes i.args
+  instance_sorts g i (origin.Builtin built_in) = standard_sorts g built_in i.args
   instance_sorts g i (origin.Text text m) = refl
 
   instances_sorts : (g : Signature) (is : List Instance) → (with_instances sorts g is).sorts ≡ g.sorts

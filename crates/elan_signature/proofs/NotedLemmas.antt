@@ -81,7 +81,7 @@ text_noted w i number None done e is noted = subst Noted (ok_same is) noted
 text_noted w i number (Some text) done e is noted = module_noted w i text _ done e is noted
 
 origin_noted : (w : World) (i : Instance) (o : Origin) → Keeps (λ done. with_origin w i done o)
-origin_noted w i origin.Builtin done e is noted = subst Noted (ok_same is) noted
+origin_noted w i (origin.Builtin built_in) done e is noted = subst Noted (ok_same is) noted
 origin_noted w i (origin.Text text m) done e is noted = text_noted w i m _ done e is noted
 
 instances_noted : (w : World) (is : List Instance) → Keeps (λ done. with_instances w done is)

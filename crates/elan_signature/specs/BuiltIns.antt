@@ -1,12 +1,13 @@
 -- The operators of the built-in modules.
-use Rattle.std.specs.Prelude.{ℕ, ◌+◌, false, cond, Some, None, List, [], ◌∷◌, ◌++◌, length, codes}
+use Rattle.std.specs.Prelude.{ℕ, ◌+◌, false, Some, None, List, [], ◌∷◌, ◌++◌, length, codes}
 use Rattle.std.specs.Option.{unwrap_or}
-use Rattle.std.specs.Str.{bytes_eq}
 use Rattle.elan_text.specs.declared.name.Name.{Name}
 use Rattle.elan_terms.specs.declared.tree.SortId.{SortId}
 use Rattle.elan_modules.specs.declared.flat.Instance.{Instance}
 use Rattle.elan_modules.specs.declared.flat.Origin.{Origin}
 use Rattle.elan_modules.specs.declared.flat.Origin.TheVariants as origin
+use Rattle.elan_modules.specs.declared.flat.Standard.{Standard}
+use Rattle.elan_modules.specs.declared.flat.Standard.TheVariants as standard
 use Rattle.elan_program.specs.declared.signature.Piece.{Piece}
 use Rattle.elan_program.specs.declared.signature.Piece.TheVariants as piece
 use Rattle.elan_program.specs.declared.signature.Assoc.{Assoc}
@@ -125,15 +126,15 @@ module _ (sorts : List Name) where
   with_eq g args =
       record { sorts = g.sorts; operators = with_eqs sorts g.operators args; int = g.int; truth = g.truth }
 
-  -- a signature with the operators of the built-in module of a name
-  abbrev pub with_standard : Signature → List ℕ → List Name → Signature
-  with_standard g name args =
-      cond (bytes_eq name (codes "bool")) (with_bool g)
-      (cond (bytes_eq name (codes "int")) (with_int g) (cond (bytes_eq name (codes "eq")) (with_eq g args) g))
+  -- a signature with the operators of a built-in module with these arguments
+  abbrev pub with_standard : Signature → Standard → List Name → Signature
+  with_standard g standard.Bool args = with_bool g
+  with_standard g standard.Int args = with_int g
+  with_standard g standard.Eq args = with_eq g args
 
   -- a signature with the operators of an instance, if it is built in
   abbrev pub with_instance : Signature → Instance → Origin → Signature
-  with_instance g i origin.Builtin = with_standard g i.name.bytes i.args
+  with_instance g i (origin.Builtin built_in) = with_standard g built_in i.args
   with_instance g i (origin.Text text «module») = g
 
   -- a signature with the operators of all instances that are built in

@@ -1,15 +1,15 @@
 -- Operators that are declared, and the checks of a declaration.
 use Rattle.std.specs.Prelude.{ℕ, Bool, ◌&&◌, ◌==◌, cond, nat_lt, Option, Some, None, Result, Ok, Err, List, [], ◌∷◌, ◌++◌, map, length, codes}
-use Rattle.std.specs.List.{list_any}
 use Rattle.std.specs.Str.{bytes_eq}
 use Rattle.elan_text.specs.declared.name.Name.{Name}
 use Rattle.elan_text.specs.declared.refusal.Code.{Code}
 use Rattle.elan_text.specs.declared.refusal.Code.TheVariants.{E05, E10, E11, E12, E14}
 use Rattle.elan_text.specs.declared.refusal.Refusal.{Refusal}
-use Rattle.elan_lexer.specs.Bytes.{value}
 use Rattle.elan_terms.specs.declared.tree.SortId.{SortId}
 use Rattle.elan_phrases.specs.declared.span.Span.{Span}
 use Rattle.elan_syntax.specs.declared.parts.OpDecl.{OpDecl}
+use Rattle.elan_syntax.specs.declared.parts.Side.{Side}
+use Rattle.elan_syntax.specs.declared.parts.Side.TheVariants as side
 use Rattle.elan_modules.specs.declared.flat.LoadedText.{LoadedText}
 use Rattle.elan_modules.specs.Sorts.{words_in, written}
 use Rattle.elan_program.specs.declared.signature.Piece.{Piece}
@@ -25,25 +25,16 @@ use Rattle.elan_numbers.specs.Numbering.{number_of}
 abbrev pub piece_of : List ℕ → Piece
 piece_of word = cond (bytes_eq word (codes "@")) piece.Hole (piece.Word (record { bytes = word }))
 
--- the number in front
-abbrev pub first_value : List (List ℕ) → ℕ
-first_value [] = 0
-first_value (digits ∷ rest) = value digits
-
--- the number after `pri`, or 0
-abbrev pub priority_in : List (List ℕ) → ℕ
-priority_in [] = 0
-priority_in (word ∷ words) = cond (bytes_eq word (codes "pri")) (first_value words) (priority_in words)
-
--- whether a word is among these
-abbrev pub has_word : List ℕ → List (List ℕ) → Bool
-has_word word = list_any (bytes_eq word)
+-- the priority that is declared, or 0
+abbrev pub priority_of : Option ℕ → ℕ
+priority_of None = 0
+priority_of (Some priority) = priority
 
 -- the associativity; an operator that is associative and commutative and has none counts as `assocLeft`
-abbrev pub associativity_in : List (List ℕ) → Assoc
-associativity_in words =
-    cond (has_word (codes "assocLeft") words) assoc.Left
-    (cond (has_word (codes "assocRight") words) assoc.Right (cond (has_word (codes "AC") words) assoc.Left assoc.No))
+abbrev pub associativity_of : Option Side → Bool → Assoc
+associativity_of (Some side.Left) ac = assoc.Left
+associativity_of (Some side.Right) ac = assoc.Right
+associativity_of None ac = cond ac assoc.Left assoc.No
 
 -- the operator of a declaration with these sorts
 abbrev pub operator_with : LoadedText → OpDecl → List SortId → SortId → Operator
@@ -51,9 +42,9 @@ operator_with text d args sort = record {
   pieces = map piece_of (words_in text d.spelling);
   args = args;
   sort = sort;
-  pri = priority_in (words_in text d.attributes);
-  assoc = associativity_in (words_in text d.attributes);
-  ac = has_word (codes "AC") (words_in text d.attributes);
+  pri = priority_of d.attributes.priority;
+  assoc = associativity_of d.attributes.associativity d.attributes.ac;
+  ac = d.attributes.ac;
   builtin = None;
 }
 

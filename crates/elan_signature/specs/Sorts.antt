@@ -1,6 +1,5 @@
 -- The sorts of a program in the order of their first declaration.
-use Rattle.std.specs.Prelude.{ℕ, cond, Option, Some, None, List, [], ◌∷◌, slice_get, codes}
-use Rattle.std.specs.Str.{bytes_eq}
+use Rattle.std.specs.Prelude.{ℕ, Option, Some, None, List, [], ◌∷◌, slice_get, codes}
 use Rattle.elan_text.specs.declared.name.Name.{Name}
 use Rattle.elan_numbers.specs.Numbering.{with_name}
 use Rattle.elan_phrases.specs.declared.span.Span.{Span}
@@ -11,14 +10,16 @@ use Rattle.elan_modules.specs.declared.flat.Instance.{Instance}
 use Rattle.elan_modules.specs.declared.flat.LoadedText.{LoadedText}
 use Rattle.elan_modules.specs.declared.flat.Origin.{Origin}
 use Rattle.elan_modules.specs.declared.flat.Origin.TheVariants as origin
+use Rattle.elan_modules.specs.declared.flat.Standard.{Standard}
+use Rattle.elan_modules.specs.declared.flat.Standard.TheVariants as standard
 use Rattle.elan_modules.specs.Sorts.{written}
 use Rattle.elan_modules.specs.Modules.{parameters_of}
 
 -- the sort of a built-in module, which for `eq` is none
-abbrev pub with_built_in : List Name → Name → List Name
-with_built_in known name =
-    cond (bytes_eq name.bytes (codes "bool")) (with_name known (codes "bool"))
-    (cond (bytes_eq name.bytes (codes "int")) (with_name known (codes "int")) known)
+abbrev pub with_built_in : List Name → Standard → List Name
+with_built_in known standard.Bool = with_name known (codes "bool")
+with_built_in known standard.Int = with_name known (codes "int")
+with_built_in known standard.Eq = known
 
 -- a module's text with the sorts that stand for its parameters
 module _ (text : LoadedText) (parameters args : List Name) where
@@ -53,7 +54,7 @@ with_text args number known (Some text) = with_module text args known (slice_get
 
 -- the sorts that an instance declares
 abbrev pub with_origin : List LoadedText → List Name → Instance → Origin → List Name
-with_origin texts known i origin.Builtin = with_built_in known i.name
+with_origin texts known i (origin.Builtin built_in) = with_built_in known built_in
 with_origin texts known i (origin.Text text «module») = with_text i.args «module» known (slice_get texts text)
 
 -- the sorts that instances declare, behind those that are known
@@ -64,8 +65,8 @@ with_instances texts known (i ∷ is) = with_instances texts (with_origin texts 
 -- the sorts of the built-in modules among these instances
 abbrev pub with_built_ins : List Name → List Instance → List Name
 with_built_ins known [] = known
-with_built_ins known (i ∷ is) = with_built_ins (of_origin known i i.origin) is
+with_built_ins known (i ∷ is) = with_built_ins (of_origin known i.origin) is
   where
-    of_origin : List Name → Instance → Origin → List Name
-    of_origin known i origin.Builtin = with_built_in known i.name
-    of_origin known i (origin.Text text «module») = known
+    of_origin : List Name → Origin → List Name
+    of_origin known (origin.Builtin built_in) = with_built_in known built_in
+    of_origin known (origin.Text text «module») = known

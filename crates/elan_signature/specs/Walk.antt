@@ -119,7 +119,7 @@ with_text w i done number (Some text) = with_module w i done text (slice_get tex
 
 -- an instance; a built-in one has no text
 abbrev pub with_origin : World → Instance → Done → Origin → Result Done Refusal
-with_origin w i done origin.Builtin = Ok done
+with_origin w i done (origin.Builtin built_in) = Ok done
 with_origin w i done (origin.Text text «module») = with_text w i done «module» (slice_get w.texts text)
 
 -- instances one after the other

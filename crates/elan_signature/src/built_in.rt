@@ -4,7 +4,7 @@ ghost use Rattle.std.specs.Prelude.{◌≡◌, ◌≤◌, ◌++◌, ◌∷◌, [
 ghost use Rattle.elan_program.specs.declared.signature.Assoc.TheVariants as side;
 ghost use Rattle.elan_signature.specs.BuiltIns as spec;
 
-use elan_modules::{Instance, Origin};
+use elan_modules::{Instance, Origin, Standard};
 use elan_numbers::Numbers;
 use elan_program::{Assoc, Builtin, Operator, Piece, Signature, Truth};
 use elan_terms::{OpId, SortId};
@@ -320,25 +320,21 @@ fn add_int(alloc: Global, sorts: &Numbers, signature: &mut Signature) -> Result<
     Ok(())
 }
 
-/// Adds the built-in module of a name.
+/// Adds a built-in module with these arguments.
 fn add_standard(
     alloc: Global,
     sorts: &Numbers,
     signature: &mut Signature,
-    name: &[u8],
+    standard: Standard,
     args: &[Name],
 ) -> Result<(), NoMemory>
     ensures { OnOk result (signature.new
-        ≡ spec.with_standard sorts.now signature.old name.now args.now) }
+        ≡ spec.with_standard sorts.now signature.old standard args.now) }
 {
-    if name == b"bool".as_slice() {
-        add_bool(alloc, sorts, signature)
-    } else if name == b"int".as_slice() {
-        add_int(alloc, sorts, signature)
-    } else if name == b"eq".as_slice() {
-        add_equalities(alloc, sorts, &mut signature.operators, args)
-    } else {
-        Ok(())
+    match standard {
+        Standard::Bool => add_bool(alloc, sorts, signature),
+        Standard::Int => add_int(alloc, sorts, signature),
+        Standard::Eq => add_equalities(alloc, sorts, &mut signature.operators, args),
     }
 }
 
@@ -354,9 +350,8 @@ pub(crate) fn add_built_ins(
 {
     let mut left = instances;
     'instances: while let [instance, rest @ ..] = left {
-        if instance.origin == Origin::Builtin {
-            let (name, args) = (instance.name.as_bytes(), instance.args.as_slice());
-            add_standard(alloc, sorts, signature, name, args)?;
+        if let Origin::Builtin(standard) = instance.origin {
+            add_standard(alloc, sorts, signature, standard, instance.args.as_slice())?;
         }
         left = rest;
     }

@@ -6,12 +6,12 @@ ghost use Rattle.elan_signature.specs.Declarations as spec;
 ghost use Rattle.elan_signature.specs.Outcomes.{Gives, Is, itself, become};
 ghost use Rattle.elan_signature.specs.Walk as walk;
 
-use crate::attributes::{associativity_in, has_word, pieces_of, priority_in, tokens_in};
+use crate::attributes::{associativity_of, pieces_of, priority_of, tokens_in};
 use crate::done::{Done, Injection};
 use crate::scope::Scope;
 use elan_modules::{LoadedText, copy_owner, place_at};
 use elan_program::{Operator, Piece, ac_fits, are_spelled, holes};
-use elan_syntax::{OpDecl, Span};
+use elan_syntax::{Attributes, OpDecl, Span};
 use elan_terms::SortId;
 use elan_text::{Code, NoMemory, Stop};
 use sqlite_items::Items;
@@ -31,14 +31,19 @@ fn operator_with(
     ensures { IfOk result (λ o. o ≡ spec.operator_with text.now declared.now args sort) }
 {
     let bytes = text.bytes.as_slice();
-    let attributes = tokens_in(text, declared.attributes);
+    let pieces = pieces_of(alloc, bytes, tokens_in(text, declared.spelling))?;
+    let Attributes {
+        priority,
+        associativity,
+        ac,
+    } = declared.attributes;
     Ok(Operator {
-        pieces: pieces_of(alloc, bytes, tokens_in(text, declared.spelling))?,
+        pieces,
         args,
         sort,
-        pri: priority_in(bytes, attributes)?,
-        assoc: associativity_in(bytes, attributes),
-        ac: has_word(b"AC", bytes, attributes),
+        pri: priority_of(priority),
+        assoc: associativity_of(associativity, ac),
+        ac,
         builtin: None,
     })
 }

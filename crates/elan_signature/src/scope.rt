@@ -6,11 +6,11 @@ ghost use Rattle.elan_signature.specs.Outcomes.{Gives, Is, itself, refusal_at as
 ghost use Rattle.elan_numbers.specs.Numbering.{number_of};
 
 use crate::outcome::refusal_at;
-use elan_modules::{LoadedText, written};
+use elan_modules::{LoadedText, Replacements, written_by};
 use elan_numbers::Numbers;
 use elan_syntax::Span;
 use elan_terms::SortId;
-use elan_text::{Code, Name, NoMemory, Stop};
+use elan_text::{Code, NoMemory, Stop};
 use sqlite_items::Items;
 use std::alloc::{AllocError, Global};
 use std::marker::Model;
@@ -19,8 +19,7 @@ use std::marker::Model;
 #[derive(Drop)]
 pub(crate) struct Scope<'a> {
     text: &'a LoadedText,
-    parameters: &'a [Name],
-    args: &'a [Name],
+    replacements: &'a Replacements<'a>,
     /// All sorts by their numbers.
     sorts: &'a Numbers,
     /// All sorts as they are counted for the limit.
@@ -38,8 +37,8 @@ impl<'a> Model for Scope<'a> {
 
     ghost view = { λ c. record {
       text = c.text.now;
-      parameters = c.parameters.now;
-      args = c.args.now;
+      parameters = c.replacements.now.parameters;
+      args = c.replacements.now.sorts;
       sorts = c.sorts.now;
       counted = c.counted.now;
     } };
@@ -102,15 +101,14 @@ impl<'a> World<'a> {
     pub(crate) fn scope(
         &self,
         text: &'a LoadedText,
-        parameters: &'a [Name],
-        args: &'a [Name],
+        replacements: &'a Replacements<'a>,
     ) -> Scope<'a>
-        ensures { result ≡ spec.scope_of self.now text.now parameters.now args.now }
+        ensures { result ≡ spec.scope_of self.now text.now
+            replacements.now.parameters replacements.now.sorts }
     {
         Scope {
             text,
-            parameters,
-            args,
+            replacements,
             sorts: self.sorts,
             counted: self.counted,
         }
@@ -151,7 +149,7 @@ impl<'a> Scope<'a> {
     pub(crate) fn sort_at(&self, alloc: Global, span: Span) -> Result<SortId, Stop>
         ensures { Gives itself result (spec.sort_at self.now span) }
     {
-        let name = written(alloc, self.text, self.parameters, self.args, span)?;
+        let name = written_by(alloc, self.text, self.replacements, span)?;
         let number = self.sorts.number_of(name.as_bytes());
         known_at(alloc, self.text, span.first, number)
     }
@@ -174,7 +172,7 @@ impl<'a> Scope<'a> {
     pub(crate) fn counted_at(&self, alloc: Global, span: Span) -> Result<Option<usize>, NoMemory>
         ensures { IfOk result (λ n. n ≡ number_of (spec.sort_text self.now span) self.now.counted) }
     {
-        let name = written(alloc, self.text, self.parameters, self.args, span)?;
+        let name = written_by(alloc, self.text, self.replacements, span)?;
         Ok(self.counted.number_of(name.as_bytes()))
     }
 }

@@ -1,25 +1,25 @@
 //! The sorts of a program in the order of their first declaration.
 
-ghost use Rattle.std.specs.Prelude.{◌≡◌, OnOk};
+ghost use Rattle.std.specs.Prelude.{◌≡◌, OnOk, slice_get};
 ghost use Rattle.elan_modules.specs.Modules as modules;
 ghost use Rattle.elan_signature.specs.Sorts as spec;
 
-use elan_modules::{Instance, LoadedText, Origin, parameters_of, written};
+use elan_modules::{
+    Instance, LoadedText, Origin, Replacements, Standard, parameters_of, written_by,
+};
 use elan_numbers::Numbers;
 use elan_syntax::{ModuleOutline, Section, Span};
 use elan_text::{Name, NoMemory};
 use std::alloc::Global;
 
 /// Adds the sort of a built-in module.
-fn add_built_in(alloc: Global, known: &mut Numbers, name: &Name) -> Result<(), NoMemory>
-    ensures { OnOk result (known.new ≡ spec.with_built_in known.old name.now) }
+fn add_built_in(alloc: Global, known: &mut Numbers, standard: Standard) -> Result<(), NoMemory>
+    ensures { OnOk result (known.new ≡ spec.with_built_in known.old standard) }
 {
-    if name.as_bytes() == b"bool".as_slice() {
-        known.add(alloc, b"bool")
-    } else if name.as_bytes() == b"int".as_slice() {
-        known.add(alloc, b"int")
-    } else {
-        Ok(())
+    match standard {
+        Standard::Bool => known.add(alloc, b"bool"),
+        Standard::Int => known.add(alloc, b"int"),
+        Standard::Eq => Ok(()),
     }
 }
 
@@ -28,16 +28,15 @@ fn add_spans(
     alloc: Global,
     known: &mut Numbers,
     text: &LoadedText,
-    parameters: &[Name],
-    args: &[Name],
+    replacements: &Replacements<'_>,
     spans: &[Span],
 ) -> Result<(), NoMemory>
-    ensures { OnOk result (known.new
-        ≡ spec.with_spans text.now parameters.now args.now known.old spans.now) }
+    ensures { OnOk result (known.new ≡ spec.with_spans text.now
+        replacements.now.parameters replacements.now.sorts known.old spans.now) }
 {
     let mut left = spans;
     'spans: while let [span, rest @ ..] = left {
-        let name = written(alloc, text, parameters, args, *span)?;
+        let name = written_by(alloc, text, replacements, *span)?;
         known.add(alloc, name.as_bytes())?;
         left = rest;
     }
@@ -49,17 +48,16 @@ fn add_sections(
     alloc: Global,
     known: &mut Numbers,
     text: &LoadedText,
-    parameters: &[Name],
-    args: &[Name],
+    replacements: &Replacements<'_>,
     sections: &[Section],
 ) -> Result<(), NoMemory>
-    ensures { OnOk result (known.new
-        ≡ spec.with_sections text.now parameters.now args.now known.old sections.now) }
+    ensures { OnOk result (known.new ≡ spec.with_sections text.now
+        replacements.now.parameters replacements.now.sorts known.old sections.now) }
 {
     let mut left = sections;
     'sections: while let [section, rest @ ..] = left {
         if let Section::Sorts(spans) = section {
-            add_spans(alloc, known, text, parameters, args, spans.as_slice())?;
+            add_spans(alloc, known, text, replacements, spans.as_slice())?;
         }
         left = rest;
     }
@@ -79,8 +77,35 @@ fn add_module(
         outline.now.sections) }
 {
     let parameters = parameters_of(alloc, text, outline.parameters.as_slice())?;
-    let sections = outline.sections.as_slice();
-    add_sections(alloc, known, text, parameters.as_slice(), args, sections)
+    let replacements = Replacements::new(alloc, parameters.as_slice(), args)?;
+    add_sections(
+        alloc,
+        known,
+        text,
+        &replacements,
+        outline.sections.as_slice(),
+    )
+}
+
+/// Adds the sorts that a module of a text declares, where the two are there.
+fn add_numbered(
+    alloc: Global,
+    known: &mut Numbers,
+    texts: &[LoadedText],
+    args: &[Name],
+    text: u32,
+    number: u32,
+) -> Result<(), NoMemory>
+    ensures { OnOk result (known.new
+        ≡ spec.with_text args.now number known.old (slice_get texts.now text)) }
+{
+    let Some(text) = texts.get(text as usize) else {
+        return Ok(());
+    };
+    let Some(outline) = text.modules.get(number as usize) else {
+        return Ok(());
+    };
+    add_module(alloc, known, text, args, outline)
 }
 
 /// Adds the sorts that an instance declares.
@@ -93,16 +118,12 @@ fn add_instance(
     ensures { OnOk result (known.new
         ≡ spec.with_origin texts.now known.old instance.now instance.now.origin) }
 {
-    let Origin::Text { text, module } = instance.origin else {
-        return add_built_in(alloc, known, &instance.name);
-    };
-    let Some(text) = texts.get(text as usize) else {
-        return Ok(());
-    };
-    let Some(outline) = text.modules.get(module as usize) else {
-        return Ok(());
-    };
-    add_module(alloc, known, text, instance.args.as_slice(), outline)
+    match instance.origin {
+        Origin::Builtin(standard) => add_built_in(alloc, known, standard),
+        Origin::Text { text, module } => {
+            add_numbered(alloc, known, texts, instance.args.as_slice(), text, module)
+        }
+    }
 }
 
 /// Adds the sorts that instances declare.
@@ -132,8 +153,8 @@ pub(crate) fn add_built_ins(
 {
     let mut left = instances;
     'instances: while let [instance, rest @ ..] = left {
-        if instance.origin == Origin::Builtin {
-            add_built_in(alloc, known, &instance.name)?;
+        if let Origin::Builtin(standard) = instance.origin {
+            add_built_in(alloc, known, standard)?;
         }
         left = rest;
     }

@@ -9,7 +9,9 @@ ghost use Rattle.elan_signature.specs.Walk as spec;
 use crate::declare::{MOST, add_operators};
 use crate::done::Done;
 use crate::scope::{Scope, World};
-use elan_modules::{Flat, Instance, LoadedText, Origin, argument_spans, parameters_of};
+use elan_modules::{
+    Flat, Instance, LoadedText, Origin, Replacements, argument_spans, parameters_of,
+};
 use elan_syntax::{LplOutline, ModuleOutline, Section, Span, Vars};
 use elan_text::{Code, Name, Stop};
 use std::alloc::Global;
@@ -147,7 +149,8 @@ fn walk_module<'x>(
         done.old outline.now.sections) }
 {
     let parameters = parameters_of(alloc, text, outline.parameters.as_slice())?;
-    let scope = world.scope(text, parameters.as_slice(), args);
+    let replacements = Replacements::new(alloc, parameters.as_slice(), args)?;
+    let scope = world.scope(text, &replacements);
     walk_sections(alloc, done, &scope, outline.sections.as_slice())
 }
 
@@ -209,7 +212,10 @@ fn look_stream<'x>(alloc: Global, world: &'x World<'x>, lpl: &LplOutline) -> Res
 {
     match world.texts().first() {
         None => Ok(()),
-        Some(text) => look_lpl(alloc, &world.scope(text, &[], &[]), lpl),
+        Some(text) => {
+            let replacements = Replacements::new(alloc, &[], &[])?;
+            look_lpl(alloc, &world.scope(text, &replacements), lpl)
+        }
     }
 }
 

@@ -58,7 +58,7 @@ fn show(alloc: Global, instance: &Instance, into: &mut Vec<u8>) -> Result<(), Fa
         into.extend_from_slice(b")")?;
     }
     let place = match instance.origin {
-        Origin::Builtin => String::from_str(alloc, "/- ")?,
+        Origin::Builtin(_) => String::from_str(alloc, "/- ")?,
         Origin::Text { text, module } => format!(in alloc; "/{text}.{module} ")?,
     };
     into.extend_from_slice(place.as_str().as_bytes())?;

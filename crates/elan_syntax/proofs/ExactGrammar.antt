@@ -5,9 +5,9 @@ use Rattle.elan_forms.proofs.Exact.{or_left, or_right}
 use Rattle.elan_forms.proofs.Takes.{Takes, Stands, May, Separate, Within, none, both, so, takes_more, may_silent, may_pure, then_stands, then_may, may_then_stands, may_then_may, stands_then_stands, stands_then_may, stands_either, then_next, then_last, takes_either, may_either, may_optional, takes_spanned, may_loop, apart_none, none_apart, none_within, within_itself}
 use Rattle.elan_phrases.specs.declared.span.Span.{Span}
 use Rattle.elan_phrases.specs.declared.symbol.Symbol.{Symbol}
-use Rattle.elan_phrases.specs.declared.symbol.Symbol.TheVariants.{Module, Import, Sort, Operators, Rules, Strategies, For, Where, If, End, Arrow, Becomes, Comma, Semicolon, Colon, LeftRound, RightRound, LeftSquare, RightSquare, Pri, Ac, AssocLeft, Implicit, Name}
+use Rattle.elan_phrases.specs.declared.symbol.Symbol.TheVariants.{Module, Import, Sort, Operators, Rules, Strategies, For, Where, If, End, Arrow, Becomes, Comma, Semicolon, Colon, LeftRound, RightRound, LeftSquare, RightSquare, Pri, Ac, AssocLeft, AssocRight, Implicit, Name}
 use Rattle.elan_phrases.specs.declared.symbol.Importer.TheVariants.{AModule}
-use Rattle.elan_phrases.specs.Symbols.{Seen, same_symbol, one, a, names, labels, choices, visibilities, spelled, associativities, in_text}
+use Rattle.elan_phrases.specs.Symbols.{Seen, same_symbol, one, a, names, labels, choices, visibilities, spelled, in_text}
 use Rattle.elan_phrases.specs.Beginnings.{begins_another_name, begins_imported, begins_declared, begins_ruled, begins_clause, begins_mark, begins_defined, begins_section}
 use Rattle.elan_phrases.specs.Tokens.{taken, sign, number_of, span, name, visibility}
 use Rattle.elan_phrases.proofs.SymbolSets.{separate, within}
@@ -21,10 +21,11 @@ use Rattle.elan_syntax.specs.declared.parts.Vars.{Vars}
 use Rattle.elan_syntax.specs.declared.parts.RuleOutline.{RuleOutline}
 use Rattle.elan_syntax.specs.declared.parts.ClauseOutline.{ClauseOutline}
 use Rattle.elan_syntax.specs.declared.parts.Definition.{Definition}
+use Rattle.elan_syntax.specs.declared.parts.Attributes.{Attributes}
 use Rattle.elan_syntax.specs.declared.attributes.Attribute.{Attribute}
 use Rattle.elan_syntax.specs.declared.attributes.Attribute.TheVariants.{Priority, Associativity, AcMark}
 use Rattle.elan_syntax.specs.declared.parameters.Parameters.{Parameters}
-use Rattle.elan_syntax.specs.Grammar.{import_list, one_import, more_imports, imports, sorts, priority, associativity, ac_mark, attribute, begins_attribute, one_of, two_of, some_attributes, more_spelled, spelling, argument_sorts, declaration, declared, more_declared, operators, another_name, more_names, vars, more_vars, where_clause, if_clause, clause_rule, more_clauses, bracket, sides, rule, ruled, more_ruled, bare_rule_first, ruled_sort, ruled_bracket, vars_first, visibility_first, behind_ruled, rules_for, rules, one_label, more_labels, formals, some_formals, definition_behind, definition, mark, defined, more_defined, definition_first, defined_sort, defined_bracket, mark_first, behind_defined, strategies_for, strategies, parameter, no_parameters, more_parameters, parameters, section_rule, sections, module_behind, module_of}
+use Rattle.elan_syntax.specs.Grammar.{import_list, one_import, more_imports, imports, sorts, priority, associativity, ac_mark, no_attributes, attribute, begins_side, begins_attribute, one_of, two_of, some_attributes, more_spelled, spelling, argument_sorts, declaration, declared, more_declared, operators, another_name, more_names, vars, more_vars, where_clause, if_clause, clause_rule, more_clauses, bracket, sides, rule, ruled, more_ruled, bare_rule_first, ruled_sort, ruled_bracket, vars_first, visibility_first, behind_ruled, rules_for, rules, one_label, more_labels, formals, some_formals, definition_behind, definition, mark, defined, more_defined, definition_first, defined_sort, defined_bracket, mark_first, behind_defined, strategies_for, strategies, parameter, no_parameters, more_parameters, parameters, section_rule, sections, module_behind, module_of}
 
 module _ (m : ℕ) where
   -- ---- imports
@@ -67,30 +68,33 @@ module _ (m : ℕ) where
   unfolding priority
   priority_takes = then_next (sign_takes m Pri) (λ _. so (small_number_takes m))
 
-  associativity_takes : Takes kind m associativities none associativity
-  unfolding associativity associativities
-  associativity_takes = taken_takes m associativities AssocLeft refl
+  associativity_takes : Takes kind m begins_side none associativity
+  unfolding associativity same_symbol
+  associativity_takes = takes_either (λ t. refl) (then_last (sign_takes m AssocLeft) (λ _. may_pure))
+      (then_last (sign_takes m AssocRight) (λ _. may_pure)) (separate refl)
 
   ac_mark_takes : Takes kind m (one LeftRound) none ac_mark
   unfolding ac_mark
   ac_mark_takes = then_next (sign_takes m LeftRound) (λ _. so (then_next (sign_takes m Ac) (λ _. so
       (sign_takes m RightRound))))
 
-  pub attribute_takes : (x : Attribute) → Takes kind m (begins_attribute x) none (attribute x)
-  attribute_takes Priority = priority_takes
-  attribute_takes Associativity = associativity_takes
-  attribute_takes AcMark = ac_mark_takes
+  pub attribute_takes : (x : Attribute) (before : Attributes) → Takes kind m (begins_attribute x) none (attribute x before)
+  attribute_takes Priority before = then_last priority_takes (λ _. may_pure)
+  attribute_takes Associativity before = then_last associativity_takes (λ _. may_pure)
+  attribute_takes AcMark before = then_last ac_mark_takes (λ _. may_pure)
 
-  attribute_first : (x : Attribute) (t : Seen) → (attribute x).first t ≡ begins_attribute x t.symbol
+  attribute_first : (x : Attribute) (before : Attributes) (t : Seen) →
+      (attribute x before).first t ≡ begins_attribute x t.symbol
   unfolding priority associativity ac_mark
-  attribute_first Priority t = refl
-  attribute_first Associativity t = refl
-  attribute_first AcMark t = refl
+  attribute_first Priority before t = refl
+  attribute_first Associativity before t = refl
+  attribute_first AcMark before t = refl
 
-  one_of_may : (x : Attribute) → May kind m (both (begins_attribute x) none) (begins_attribute x) (one_of x)
+  one_of_may : (x : Attribute) (before : Attributes) →
+      May kind m (both (begins_attribute x) none) (begins_attribute x) (one_of x before)
   unfolding one_of
-  one_of_may x = may_either (attribute_first x) (so (takes_more none_within (attribute_takes x))) may_pure none_apart
-      within_itself
+  one_of_may x before = may_either (attribute_first x before) (so (takes_more none_within (attribute_takes x before)))
+      may_pure none_apart within_itself
 
   abbrev begins_two : Attribute → Attribute → Symbol → Bool
   begins_two x y s = begins_attribute x s || begins_attribute y s
@@ -101,32 +105,32 @@ module _ (m : ℕ) where
   second_in : (x y : Attribute) → Within (begins_attribute y) (begins_two x y)
   second_in x y = record { also = λ s e. or_right (begins_attribute x s) (begins_attribute y s) e }
 
-  two_of_may : (x y : Attribute) → Separate (both (begins_attribute y) none) (begins_attribute x) →
-      May kind m (both (begins_attribute x) (both (begins_attribute y) none)) (begins_two x y) (two_of x y)
+  two_of_may : (x y : Attribute) (before : Attributes) → Separate (both (begins_attribute y) none) (begins_attribute x) →
+      May kind m (both (begins_attribute x) (both (begins_attribute y) none)) (begins_two x y) (two_of x y before)
   unfolding two_of
-  two_of_may x y apart =
-      may_either (attribute_first x)
-      (so (takes_more (second_in x y) (then_last (attribute_takes x) (λ _. one_of_may y))))
-      (may_either (attribute_first y)
-      (so (takes_more (first_in x y) (then_last (attribute_takes y) (λ _. one_of_may x)))) may_pure none_apart
+  two_of_may x y before apart =
+      may_either (attribute_first x before)
+      (so (takes_more (second_in x y) (then_last (attribute_takes x before) (one_of_may y))))
+      (may_either (attribute_first y before)
+      (so (takes_more (first_in x y) (then_last (attribute_takes y before) (one_of_may x)))) may_pure none_apart
       (second_in x y)) apart (first_in x y)
 
   abbrev begins_attributes : Symbol → Bool
-  begins_attributes s = one Pri s || (associativities s || one LeftRound s)
+  begins_attributes s = one Pri s || (begins_side s || one LeftRound s)
 
   some_attributes_may : May kind m (both (begins_attribute Priority) (both (begins_attribute Associativity) (both
       (begins_attribute AcMark) none))) begins_attributes some_attributes
-  unfolding some_attributes priority associativity ac_mark same_symbol associativities
+  unfolding some_attributes priority associativity ac_mark same_symbol
   some_attributes_may =
       may_either (λ t. refl)
-      (so (takes_more (within refl) (then_last (attribute_takes Priority) (λ _. two_of_may Associativity AcMark
-      (separate refl)))))
+      (so (takes_more (within refl) (then_last (attribute_takes Priority no_attributes) (λ found.
+      two_of_may Associativity AcMark found (separate refl)))))
       (may_either (λ t. refl)
-      (so (takes_more (within refl) (then_last (attribute_takes Associativity) (λ _. two_of_may Priority AcMark
-      (separate refl)))))
+      (so (takes_more (within refl) (then_last (attribute_takes Associativity no_attributes) (λ found.
+      two_of_may Priority AcMark found (separate refl)))))
       (may_either (λ t. refl)
-      (so (takes_more (within refl) (then_last (attribute_takes AcMark) (λ _. two_of_may Priority Associativity
-      (separate refl))))) may_pure none_apart (within refl))
+      (so (takes_more (within refl) (then_last (attribute_takes AcMark no_attributes) (λ found.
+      two_of_may Priority Associativity found (separate refl))))) may_pure none_apart (within refl))
       (separate refl) (within refl))
       (separate refl) (within refl)
 
@@ -157,17 +161,14 @@ module _ (m : ℕ) where
       none_apart within_itself
 
   declaration_takes : Takes kind m spelled none declaration
-  unfolding declaration same_symbol spelled names associativities
+  unfolding declaration same_symbol spelled names
   declaration_takes =
       then_stands spelling_takes (λ spelling.
       so (then_next (sign_takes m Colon) (λ _.
       may_then_stands some_argument_sorts_may (λ args.
       so (then_stands (sort_span_takes m) (λ sort.
-      may_then_stands (may_silent {value = λ n. n}) (λ first.
-      may_then_stands some_attributes_may (λ _.
-      may_then_stands (may_silent {value = λ n. n}) (λ past.
-      so (then_last (sign_takes m Semicolon) (λ _. may_pure))) apart_none)
-      (separate refl)) apart_none)
+      may_then_stands some_attributes_may (λ _. so (then_last (sign_takes m Semicolon) (λ _. may_pure)))
+      (separate refl))
       (separate refl)))
       (separate refl))))
       (separate refl)

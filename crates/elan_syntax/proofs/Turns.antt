@@ -15,6 +15,7 @@ use Rattle.elan_syntax.specs.declared.parts.Vars.{Vars}
 use Rattle.elan_syntax.specs.declared.parts.RuleOutline.{RuleOutline}
 use Rattle.elan_syntax.specs.declared.parts.ClauseOutline.{ClauseOutline}
 use Rattle.elan_syntax.specs.declared.parts.Definition.{Definition}
+use Rattle.elan_syntax.specs.declared.parts.Attributes.{Attributes}
 use Rattle.elan_syntax.specs.declared.attributes.Attribute.{Attribute}
 use Rattle.elan_syntax.specs.declared.attributes.Attribute.TheVariants.{Priority, Associativity, AcMark}
 use Rattle.elan_syntax.specs.declared.parameters.Parameters.{Parameters}
@@ -24,28 +25,29 @@ use Rattle.elan_syntax.proofs.ExactStreams.{one_module_takes}
 
 -- ---- attributes
 
-first_is : (x : Attribute) (ts : List Seen) → begins_with (attribute x).first ts ≡ begins_with (a (begins_attribute x)) ts
+first_is : (x : Attribute) (before : Attributes) (ts : List Seen) →
+    begins_with (attribute x before).first ts ≡ begins_with (a (begins_attribute x)) ts
 unfolding priority associativity ac_mark
-first_is Priority ts = refl
-first_is Associativity ts = refl
-first_is AcMark ts = refl
+first_is Priority before ts = refl
+first_is Associativity before ts = refl
+first_is AcMark before ts = refl
 
-pub one_of_reads : (x : Attribute) (n : ℕ) (ts : List Seen) →
-    (one_of x).read n ts
-    ≡ cond (begins_with (a (begins_attribute x)) ts) ((attribute x).read n ts) (done tt n ts)
+pub one_of_reads : (x : Attribute) (before : Attributes) (n : ℕ) (ts : List Seen) →
+    (one_of x before).read n ts
+    ≡ cond (begins_with (a (begins_attribute x)) ts) ((attribute x before).read n ts) (done before n ts)
 unfolding one_of
-one_of_reads x n ts = ap (λ d. cond d ((attribute x).read n ts) (done tt n ts)) (first_is x ts)
+one_of_reads x before n ts = ap (λ d. cond d ((attribute x before).read n ts) (done before n ts)) (first_is x before ts)
 
-pub two_of_reads : (x y : Attribute) (n : ℕ) (ts : List Seen) →
-    (two_of x y).read n ts
-    ≡ cond (begins_with (a (begins_attribute x)) ts) (after ((attribute x).read n ts) (λ _. one_of y))
-    (cond (begins_with (a (begins_attribute y)) ts) (after ((attribute y).read n ts) (λ _. one_of x)) (done tt n ts))
+pub two_of_reads : (x y : Attribute) (before : Attributes) (n : ℕ) (ts : List Seen) →
+    (two_of x y before).read n ts
+    ≡ cond (begins_with (a (begins_attribute x)) ts) (after ((attribute x before).read n ts) (one_of y))
+    (cond (begins_with (a (begins_attribute y)) ts) (after ((attribute y before).read n ts) (one_of x)) (done before n ts))
 unfolding two_of
-two_of_reads x y n ts =
-    ap (λ d. cond d (after ((attribute x).read n ts) (λ _. one_of y)) (cond (begins_with (attribute y).first ts)
-    (after ((attribute y).read n ts) (λ _. one_of x)) (done tt n ts))) (first_is x ts)
-    ∙ ap (λ d. cond (begins_with (a (begins_attribute x)) ts) (after ((attribute x).read n ts) (λ _. one_of y))
-    (cond d (after ((attribute y).read n ts) (λ _. one_of x)) (done tt n ts))) (first_is y ts)
+two_of_reads x y before n ts =
+    ap (λ d. cond d (after ((attribute x before).read n ts) (one_of y)) (cond (begins_with (attribute y before).first ts)
+    (after ((attribute y before).read n ts) (one_of x)) (done before n ts))) (first_is x before ts)
+    ∙ ap (λ d. cond (begins_with (a (begins_attribute x)) ts) (after ((attribute x before).read n ts) (one_of y))
+    (cond d (after ((attribute y before).read n ts) (one_of x)) (done before n ts))) (first_is y before ts)
 
 -- ---- loops
 

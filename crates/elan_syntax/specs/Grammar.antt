@@ -1,15 +1,15 @@
 -- The grammar, rule by rule. The value of a rule is a part of the outline.
-use Rattle.std.specs.Prelude.{ℕ, List, [], ◌∷◌, ◌++◌, Bool, Option, None}
+use Rattle.std.specs.Prelude.{ℕ, List, [], ◌∷◌, ◌++◌, Bool, true, false, ◌||◌, Option, Some, None}
 use Rattle.elan_forms.specs.Form.{◌>>=◌, ◌>>◌, token, pure, place, either, optional, loop, spanned, whole}
 use Rattle.elan_text.specs.declared.name.Name.{Name}
 use Rattle.elan_phrases.specs.declared.span.Span.{Span}
 use Rattle.elan_phrases.specs.declared.plan.Planned.{Planned}
 use Rattle.elan_phrases.specs.declared.symbol.Symbol.{Symbol}
-use Rattle.elan_phrases.specs.declared.symbol.Symbol.TheVariants.{Module, Import, Sort, Operators, Rules, Strategies, For, Where, If, End, Lpl, Arrow, Becomes, Comma, Semicolon, Colon, LeftRound, RightRound, LeftSquare, RightSquare, Pri, Ac, Description, Query, Of, Result, Start, With}
+use Rattle.elan_phrases.specs.declared.symbol.Symbol.TheVariants.{Module, Import, Sort, Operators, Rules, Strategies, For, Where, If, End, Lpl, Arrow, Becomes, Comma, Semicolon, Colon, LeftRound, RightRound, LeftSquare, RightSquare, Pri, AssocLeft, AssocRight, Ac, Description, Query, Of, Result, Start, With}
 use Rattle.elan_phrases.specs.declared.symbol.Importer.TheVariants.{AModule, AnLplText}
-use Rattle.elan_phrases.specs.Symbols.{Seen, one, a, names, labels, spelled, associativities, importable, small_numbers, fresh, the_name}
+use Rattle.elan_phrases.specs.Symbols.{Seen, one, a, names, labels, spelled, importable, fresh, the_name}
 use Rattle.elan_phrases.specs.Beginnings.{begins_another_name, begins_imported, begins_declared, begins_ruled, begins_clause, begins_mark, begins_defined, begins_section}
-use Rattle.elan_phrases.specs.Tokens.{Rule, taken, sign, number_of, span, span_of, name, visibility}
+use Rattle.elan_phrases.specs.Tokens.{Rule, taken, sign, number_of, span, span_of, small_number, name, visibility}
 use Rattle.elan_phrases.specs.Texts.{text}
 use Rattle.elan_phrases.specs.SortExpressions.{closing_arguments, sort_span, more_sorts, references}
 use Rattle.elan_phrases.specs.Strategies.{strategy_plan, some_strategy}
@@ -18,6 +18,9 @@ use Rattle.elan_syntax.specs.declared.parts.ModuleOutline.{ModuleOutline}
 use Rattle.elan_syntax.specs.declared.parts.Section.{Section}
 use Rattle.elan_syntax.specs.declared.parts.Section.TheVariants as section
 use Rattle.elan_syntax.specs.declared.parts.OpDecl.{OpDecl}
+use Rattle.elan_syntax.specs.declared.parts.Attributes.{Attributes}
+use Rattle.elan_syntax.specs.declared.parts.Side.{Side}
+use Rattle.elan_syntax.specs.declared.parts.Side.TheVariants as side
 use Rattle.elan_syntax.specs.declared.parts.Vars.{Vars}
 use Rattle.elan_syntax.specs.declared.parts.RuleOutline.{RuleOutline}
 use Rattle.elan_syntax.specs.declared.parts.ClauseOutline.{ClauseOutline}
@@ -68,13 +71,13 @@ sorts = do
 
 -- ---- attributes of operators
 
--- "pri" NUMBER, which is at most 255
-unfoldable pub priority : Rule (Unit {0})
-priority = sign Pri >> taken small_numbers
+-- "pri" NUMBER, which is at most 255; the value is that of the number
+unfoldable pub priority : Rule ℕ
+priority = sign Pri >> small_number
 
 -- "assocLeft" | "assocRight"
-unfoldable pub associativity : Rule (Unit {0})
-associativity = taken (a associativities)
+unfoldable pub associativity : Rule Side
+associativity = either (sign AssocLeft >> pure side.Left) (sign AssocRight >> pure side.Right)
 
 -- "(" "AC" ")"
 unfoldable pub ac_mark : Rule (Unit {0})
@@ -83,34 +86,54 @@ ac_mark = do
   sign Ac
   sign RightRound
 
--- an attribute of this kind
-abbrev pub attribute : Attribute → Rule (Unit {0})
-attribute Priority = priority
-attribute Associativity = associativity
-attribute AcMark = ac_mark
+-- no attribute
+abbrev pub no_attributes : Attributes
+no_attributes = record { priority = None; associativity = None; ac = false }
+
+-- these attributes with this priority
+abbrev pub with_priority : Attributes → ℕ → Attributes
+with_priority before n = record { priority = Some n; associativity = before.associativity; ac = before.ac }
+
+-- these attributes with the side to which the operator associates
+abbrev pub with_side : Attributes → Side → Attributes
+with_side before s = record { priority = before.priority; associativity = Some s; ac = before.ac }
+
+-- these attributes of an operator that is associative and commutative
+abbrev pub with_ac : Attributes → Attributes
+with_ac before = record { priority = before.priority; associativity = before.associativity; ac = true }
+
+-- attribute = "pri" NUMBER | "assocLeft" | "assocRight" | "(" "AC" ")", the one of this kind, beside those before it
+abbrev pub attribute : Attribute → Attributes → Rule Attributes
+attribute Priority before = priority >>= (λ n. pure (with_priority before n))
+attribute Associativity before = associativity >>= (λ s. pure (with_side before s))
+attribute AcMark before = ac_mark >> pure (with_ac before)
+
+-- `assocLeft` or `assocRight`
+abbrev pub begins_side : Symbol → Bool
+begins_side s = one AssocLeft s || one AssocRight s
 
 -- with which an attribute of this kind begins
 abbrev pub begins_attribute : Attribute → Symbol → Bool
 begins_attribute Priority s = one Pri s
-begins_attribute Associativity s = associativities s
+begins_attribute Associativity s = begins_side s
 begins_attribute AcMark s = one LeftRound s
 
 -- this attribute, or nothing
-unfoldable pub one_of : Attribute → Rule (Unit {0})
-one_of x = either (attribute x) (pure tt)
+unfoldable pub one_of : Attribute → Attributes → Rule Attributes
+one_of x before = either (attribute x before) (pure before)
 
 -- these two, each at most once, in any order
-unfoldable pub two_of : Attribute → Attribute → Rule (Unit {0})
-two_of x y =
-    either (attribute x >> one_of y)
-    (either (attribute y >> one_of x) (pure tt))
+unfoldable pub two_of : Attribute → Attribute → Attributes → Rule Attributes
+two_of x y before =
+    either (attribute x before >>= one_of y)
+    (either (attribute y before >>= one_of x) (pure before))
 
 -- { attribute }, where each of the three stands at most once, in any order
-unfoldable pub some_attributes : Rule (Unit {0})
+unfoldable pub some_attributes : Rule Attributes
 some_attributes =
-    either (attribute Priority >> two_of Associativity AcMark)
-    (either (attribute Associativity >> two_of Priority AcMark)
-    (either (attribute AcMark >> two_of Priority Associativity) (pure tt)))
+    either (attribute Priority no_attributes >>= two_of Associativity AcMark)
+    (either (attribute Associativity no_attributes >>= two_of Priority AcMark)
+    (either (attribute AcMark no_attributes >>= two_of Priority Associativity) (pure no_attributes)))
 
 -- ---- operators
 
@@ -141,11 +164,9 @@ declaration = do
   sign Colon
   args ← some_argument_sorts
   sort ← sort_span
-  first ← place
-  some_attributes
-  past ← place
+  attributes ← some_attributes
   sign Semicolon
-  pure (record { spelling = spelling; args = args; sort = sort; attributes = span first past })
+  pure (record { spelling = spelling; args = args; sort = sort; attributes = attributes })
 
 -- vis | opdecl, a declaration behind those found
 unfoldable pub declared : List OpDecl → Rule (List OpDecl)

@@ -5,7 +5,7 @@ ghost use Rattle.elan_phrases.specs.Input.{Reads};
 ghost use Rattle.elan_syntax.specs.Grammar as grammar;
 
 use crate::parts::ClauseOutline;
-use elan_phrases::{Halt, Reader, Symbol, pushed, some_strategy, text};
+use elan_phrases::{Halt, Reader, Symbol, SymbolSet, pushed, some_strategy, text};
 use sqlite_items::Items;
 use std::alloc::Global;
 
@@ -16,7 +16,7 @@ pub fn more_clauses(alloc: Global, reader: &mut Reader<'_>) -> Result<Items<Clau
     ensures no_longer { IfOk result (λ _. length reader.new.rest ≤ length reader.old.rest) }
 {
     let mut found = Items::new(alloc);
-    'clauses: while reader.sees_clause() {
+    'clauses: while reader.sees_any(SymbolSet::BeginsClause) {
         let next = clause(alloc, reader)?;
         found = pushed(found, next)?;
     }

@@ -6,7 +6,9 @@ ghost use Rattle.elan_syntax.specs.Grammar as grammar;
 
 use crate::parts::{Definition, Section};
 use crate::rules::bracket;
-use elan_phrases::{Halt, Reader, Span, Symbol, closing_arguments, pushed, strategy_plan};
+use elan_phrases::{
+    Halt, Reader, Span, Symbol, SymbolSet, closing_arguments, pushed, strategy_plan,
+};
 use sqlite_items::Items;
 use std::alloc::Global;
 
@@ -48,7 +50,7 @@ fn behind_defined(alloc: Global, reader: &mut Reader<'_>, name: Span) -> Result<
 {
     if reader.sees(Symbol::LeftSquare) {
         defined_bracket(alloc, reader, name)
-    } else if reader.sees_mark() {
+    } else if reader.sees_any(SymbolSet::BeginsMark) {
         mark_first(alloc, reader, name)
     } else {
         Ok(StrategiesFor {
@@ -140,7 +142,7 @@ fn more_defined(
     ensures no_longer { IfOk result (λ _. length reader.new.rest ≤ length reader.old.rest) }
 {
     let mut found = before;
-    'definitions: while reader.sees_defined() {
+    'definitions: while reader.sees_any(SymbolSet::BeginsDefined) {
         found = defined(alloc, reader, found)?;
     }
     Ok(found)
@@ -156,7 +158,7 @@ fn defined(
     ensures read { Reads (grammar.defined before) reader.old result reader.new }
     ensures shorter { IfOk result (λ _. length reader.new.rest < length reader.old.rest) }
 {
-    if reader.sees_mark() {
+    if reader.sees_any(SymbolSet::BeginsMark) {
         mark(reader)?;
         Ok(before)
     } else {
@@ -171,7 +173,7 @@ fn mark(reader: &mut Reader<'_>) -> Result<(), Halt>
     ensures read { Reads grammar.mark reader.old result reader.new }
     ensures shorter { IfOk result (λ _. length reader.new.rest < length reader.old.rest) }
 {
-    let fits = reader.sees_mark();
+    let fits = reader.sees_any(SymbolSet::BeginsMark);
     reader.skip(fits)
 }
 
@@ -192,7 +194,7 @@ fn definition_behind(alloc: Global, reader: &mut Reader<'_>, at: u32) -> Result<
     ensures shorter { IfOk result (λ _. length reader.new.rest < length reader.old.rest) }
 {
     reader.sign(Symbol::RightSquare)?;
-    let fits = reader.sees_label();
+    let fits = reader.sees_any(SymbolSet::Labels);
     let name = reader.number(fits)?;
     let parameters = some_formals(alloc, reader)?;
     reader.sign(Symbol::Arrow)?;
@@ -251,7 +253,7 @@ fn one_label(reader: &mut Reader<'_>, before: Items<u32>) -> Result<Items<u32>, 
     ensures read { Reads (grammar.one_label before) reader.old result reader.new }
     ensures shorter { IfOk result (λ _. length reader.new.rest < length reader.old.rest) }
 {
-    let fits = reader.sees_label();
+    let fits = reader.sees_any(SymbolSet::Labels);
     let at = reader.number(fits)?;
     pushed(before, at)
 }

@@ -5,7 +5,7 @@ ghost use Rattle.elan_phrases.specs.Input.{Reads};
 ghost use Rattle.elan_syntax.specs.Grammar as grammar;
 
 use crate::parts::Section;
-use elan_phrases::{Halt, Importer, Reader, Span, Symbol, references};
+use elan_phrases::{Halt, Importer, Reader, Span, Symbol, SymbolSet, references};
 use sqlite_items::Items;
 use std::alloc::Global;
 
@@ -28,7 +28,7 @@ fn more_imports(alloc: Global, reader: &mut Reader<'_>) -> Result<Items<Span>, H
     ensures no_longer { IfOk result (λ _. length reader.new.rest ≤ length reader.old.rest) }
 {
     let mut found = Items::new(alloc);
-    'imports: while reader.sees_references() {
+    'imports: while reader.sees_any(SymbolSet::BeginsImported) {
         found = one_import(reader, found)?;
     }
     Ok(found)
@@ -41,7 +41,7 @@ fn one_import(reader: &mut Reader<'_>, before: Items<Span>) -> Result<Items<Span
     ensures read { Reads (grammar.one_import before) reader.old result reader.new }
     ensures shorter { IfOk result (λ _. length reader.new.rest < length reader.old.rest) }
 {
-    if reader.sees_visibility() {
+    if reader.sees_any(SymbolSet::Visibilities) {
         reader.visibility()?;
         import_list(reader, before)
     } else {

@@ -19,6 +19,6 @@ mod variables;
 pub use elan_phrases::Span;
 pub use entry::{module_outline, outline};
 pub use parts::{
-    ClauseOutline, Definition, LplOutline, ModuleOutline, OpDecl, Outline, RuleOutline, Section,
-    Vars,
+    Attributes, ClauseOutline, Definition, LplOutline, ModuleOutline, OpDecl, Outline, RuleOutline,
+    Section, Side, Vars,
 };

@@ -12,7 +12,7 @@ use crate::parameters::some_parameters;
 use crate::parts::{ModuleOutline, Section};
 use crate::rules::rules;
 use crate::sorts::sorts;
-use elan_phrases::{Halt, Reader, Symbol, pushed};
+use elan_phrases::{Halt, Reader, Symbol, SymbolSet, pushed};
 use elan_text::Name;
 use sqlite_items::Items;
 use std::alloc::Global;
@@ -81,7 +81,7 @@ fn sections(alloc: Global, reader: &mut Reader<'_>) -> Result<Items<Section>, Ha
     ensures no_longer { IfOk result (λ _. length reader.new.rest ≤ length reader.old.rest) }
 {
     let mut found = Items::new(alloc);
-    'sections: while reader.sees_section() {
+    'sections: while reader.sees_any(SymbolSet::BeginsSection) {
         let next = section(alloc, reader)?;
         found = pushed(found, next)?;
     }

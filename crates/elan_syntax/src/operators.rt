@@ -6,7 +6,7 @@ ghost use Rattle.elan_syntax.specs.Grammar as grammar;
 
 use crate::attributes::some_attributes;
 use crate::parts::{OpDecl, Section};
-use elan_phrases::{Halt, Reader, Span, Symbol, more_sorts, pushed, sort_span};
+use elan_phrases::{Halt, Reader, Span, Symbol, SymbolSet, more_sorts, pushed, sort_span};
 use sqlite_items::Items;
 use std::alloc::Global;
 
@@ -29,7 +29,7 @@ fn more_declared(alloc: Global, reader: &mut Reader<'_>) -> Result<Items<OpDecl>
     ensures no_longer { IfOk result (λ _. length reader.new.rest ≤ length reader.old.rest) }
 {
     let mut found = Items::new(alloc);
-    'declarations: while reader.sees_declared() {
+    'declarations: while reader.sees_any(SymbolSet::BeginsDeclared) {
         found = declared(alloc, reader, found)?;
     }
     Ok(found)
@@ -45,7 +45,7 @@ fn declared(
     ensures read { Reads (grammar.declared before) reader.old result reader.new }
     ensures shorter { IfOk result (λ _. length reader.new.rest < length reader.old.rest) }
 {
-    if reader.sees_visibility() {
+    if reader.sees_any(SymbolSet::Visibilities) {
         reader.visibility()?;
         Ok(before)
     } else {
@@ -64,15 +64,13 @@ fn declaration(alloc: Global, reader: &mut Reader<'_>) -> Result<OpDecl, Halt>
     reader.sign(Symbol::Colon)?;
     let args = some_argument_sorts(alloc, reader)?;
     let sort = sort_span(reader)?;
-    let first = reader.at();
-    some_attributes(reader)?;
-    let past = reader.at();
+    let attributes = some_attributes(reader)?;
     reader.sign(Symbol::Semicolon)?;
     Ok(OpDecl {
         spelling,
         args,
         sort,
-        attributes: Span { first, past },
+        attributes,
     })
 }
 
@@ -83,7 +81,7 @@ fn spelling(reader: &mut Reader<'_>) -> Result<Span, Halt>
     ensures shorter { IfOk result (λ _. length reader.new.rest < length reader.old.rest) }
 {
     let first = reader.at();
-    let fits = reader.sees_spelled();
+    let fits = reader.sees_any(SymbolSet::Spelled);
     reader.skip(fits)?;
     more_spelled(reader)?;
     Ok(Span {
@@ -98,7 +96,7 @@ fn more_spelled(reader: &mut Reader<'_>) -> Result<(), Halt>
     ensures read { Reads grammar.more_spelled reader.old result reader.new }
     ensures no_longer { IfOk result (λ _. length reader.new.rest ≤ length reader.old.rest) }
 {
-    'tokens: while reader.sees_spelled() {
+    'tokens: while reader.sees_any(SymbolSet::Spelled) {
         reader.skip(true)?;
     }
     Ok(())

@@ -7,7 +7,7 @@ ghost use Rattle.elan_phrases.specs.Symbols.{fresh};
 ghost use Rattle.elan_syntax.specs.Grammar as grammar;
 
 use elan_numbers::Numbers;
-use elan_phrases::{Halt, Reader, Symbol, pushed};
+use elan_phrases::{Halt, Reader, Symbol, SymbolSet, pushed};
 use elan_text::Name;
 use sqlite_items::Items;
 use std::alloc::Global;
@@ -74,7 +74,7 @@ fn is_fresh(reader: &Reader<'_>, word: &Name, taken: &Numbers) -> bool
     requires { word.now.bytes ≡ next_text reader.now.rest }
     ensures { result ≡ sees (fresh taken.now) reader.now }
 {
-    reader.sees_name() && taken.number_of(word.as_bytes()).is_none()
+    reader.sees_any(SymbolSet::Names) && taken.number_of(word.as_bytes()).is_none()
 }
 
 /// The names with one more, unless it is there.

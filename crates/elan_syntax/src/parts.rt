@@ -51,8 +51,28 @@ pub struct OpDecl {
     pub args: Items<Span>,
     /// The sort of the operator.
     pub sort: Span,
-    /// What stands between the sort and the `;`, which may be nothing.
-    pub attributes: Span,
+    /// What stands between the sort and the `;`.
+    pub attributes: Attributes,
+}
+
+/// What a declaration of an operator says behind the sort, where each of the three stands at most once.
+#[derive(Clone, Copy, Debug, PartialEq, Eq)]
+pub struct Attributes {
+    /// The number behind `pri`.
+    pub priority: Option<u8>,
+    /// The side of `assocLeft` or `assocRight`.
+    pub associativity: Option<Side>,
+    /// Whether `(AC)` stands there: the operator is associative and commutative.
+    pub ac: bool,
+}
+
+/// To which side an operator associates.
+#[derive(Clone, Copy, Debug, PartialEq, Eq)]
+pub enum Side {
+    /// `assocLeft`.
+    Left,
+    /// `assocRight`.
+    Right,
 }
 
 /// A declaration of variables of one sort.

@@ -7,7 +7,7 @@ ghost use Rattle.elan_syntax.specs.Grammar as grammar;
 use crate::clauses::more_clauses;
 use crate::parts::{RuleOutline, Section, Vars};
 use crate::variables::{more_vars, vars};
-use elan_phrases::{Halt, Reader, Span, Symbol, closing_arguments, pushed, text};
+use elan_phrases::{Halt, Reader, Span, Symbol, SymbolSet, closing_arguments, pushed, text};
 use sqlite_items::Items;
 use std::alloc::Global;
 
@@ -50,9 +50,9 @@ fn behind_ruled(alloc: Global, reader: &mut Reader<'_>, name: Span) -> Result<Ru
 {
     if reader.sees(Symbol::LeftSquare) {
         ruled_bracket(alloc, reader, name)
-    } else if reader.sees_name() {
+    } else if reader.sees_any(SymbolSet::Names) {
         vars_first(alloc, reader, name)
-    } else if reader.sees_visibility() {
+    } else if reader.sees_any(SymbolSet::Visibilities) {
         visibility_first(alloc, reader, name)
     } else {
         Ok(RulesFor {
@@ -162,7 +162,7 @@ fn more_ruled(
     ensures no_longer { IfOk result (λ _. length reader.new.rest ≤ length reader.old.rest) }
 {
     let mut found = before;
-    'rules: while reader.sees_ruled() {
+    'rules: while reader.sees_any(SymbolSet::BeginsRuled) {
         found = ruled(alloc, reader, found)?;
     }
     Ok(found)
@@ -178,7 +178,7 @@ fn ruled(
     ensures read { Reads (grammar.ruled before) reader.old result reader.new }
     ensures shorter { IfOk result (λ _. length reader.new.rest < length reader.old.rest) }
 {
-    if reader.sees_visibility() {
+    if reader.sees_any(SymbolSet::Visibilities) {
         reader.visibility()?;
         Ok(before)
     } else {
@@ -213,7 +213,7 @@ fn some_label(reader: &mut Reader<'_>) -> Result<Option<u32>, Halt>
     ensures read { Reads grammar.some_label reader.old result reader.new }
     ensures no_longer { IfOk result (λ _. length reader.new.rest ≤ length reader.old.rest) }
 {
-    if reader.sees_label() {
+    if reader.sees_any(SymbolSet::Labels) {
         let label = reader.number(true)?;
         Ok(Some(label))
     } else {

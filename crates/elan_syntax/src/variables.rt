@@ -5,7 +5,7 @@ ghost use Rattle.elan_phrases.specs.Input.{Reads};
 ghost use Rattle.elan_syntax.specs.Grammar as grammar;
 
 use crate::parts::Vars;
-use elan_phrases::{Halt, Reader, Symbol, pushed, sort_span};
+use elan_phrases::{Halt, Reader, Symbol, SymbolSet, pushed, sort_span};
 use sqlite_items::Items;
 use std::alloc::Global;
 
@@ -35,7 +35,7 @@ pub fn more_vars(
     ensures no_longer { IfOk result (λ _. length reader.new.rest ≤ length reader.old.rest) }
 {
     let mut found = before;
-    'vars: while reader.sees_name() {
+    'vars: while reader.sees_any(SymbolSet::Names) {
         let next = vars(alloc, reader)?;
         found = pushed(found, next)?;
     }
@@ -49,7 +49,7 @@ fn more_names(reader: &mut Reader<'_>, before: Items<u32>) -> Result<Items<u32>,
     ensures no_longer { IfOk result (λ _. length reader.new.rest ≤ length reader.old.rest) }
 {
     let mut found = before;
-    'names: while reader.sees_another_name() {
+    'names: while reader.sees_any(SymbolSet::BeginsAnotherName) {
         let name = another_name(reader)?;
         found = pushed(found, name)?;
     }

@@ -16,4 +16,4 @@ pub returns-clause-values : goal.returns-clause-values
 returns-clause-values c =
     let added = value_added c.args.known.now c.args.values.now c.args.parameter.now c.args.sort.now _
     (rw c.as_bytes-name.ensures at c.number_of.ensures.value) (sym c.is_some.ensures ∙ c.if-is_some.false) in
-    rw (c.in_ok-push.ensures.ok, c.in_ok-copy_name.ensures) added
+    rw (c.in_ok-push.ensures.ok, c.in_ok-copy.ensures) added

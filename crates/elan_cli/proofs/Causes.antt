@@ -1,6 +1,6 @@
 -- The first mistake explained.
 use Rattle.std.proofs.Common.{◌≡◌, ◌∙◌, ℕ, Bool, true, false, cond, List, [], ◌∷◌, ◌++◌, length, refl, sym}
-use Rattle.std.proofs.Common.{ap, ap₂, append-nil, append_assoc, Option, Some, None, is_some}
+use Rattle.std.proofs.Common.{ap, ap₂, append-nil, append_assoc, subst, Option, Some, None, is_some}
 use Rattle.std.specs.Option.{option_map_or, option_or}
 use Rattle.elan_cli.specs.Words.{Word, number, value_part}
 use Rattle.elan_cli.specs.Settings.{is_flag, most, named, wants}
@@ -180,3 +180,10 @@ first_wrong plain words e is =
       wrong = explained plain f.mid f.word f.rest e f.is;
       none_before = f.none;
     }
+
+-- no word is refused for want of memory
+pub named_alone : (plain : Bool) (words : List Word) (e : WordsRefusal) → first_mistake plain [] words ≡ Some e
+    → e ≡ NoMemory → first_mistake plain [] words ≡ None
+named_alone plain words e is memory =
+    let f = first_wrong plain words e is in
+    absurd (subst (IsWrong plain f.before f.word f.after) memory f.wrong)

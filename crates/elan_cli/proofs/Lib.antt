@@ -4,5 +4,6 @@ pub mod NameLemmas
 pub mod Steps
 pub mod Walking
 pub mod CommandLemmas
+pub mod InRange
 pub mod Causes
 pub mod Spelling

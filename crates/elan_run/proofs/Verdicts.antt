@@ -1,5 +1,5 @@
 -- Words and an input have one verdict, and so one report.
-use Rattle.std.proofs.Common.{◌≡◌, ◌<◌, ◌≤◌, ℕ, List, Result, Ok, Err, length, refl, sym, ◌∙◌, ap, subst, arith}
+use Rattle.std.proofs.Common.{◌≡◌, ◌<◌, ◌≤◌, ℕ, List, Option, Some, None, Result, Ok, Err, length, refl, sym, ◌∙◌, ap, ap₂, subst, arith}
 use Rattle.elan_text.specs.declared.refusal.Code.{Code}
 use Rattle.elan_text.specs.declared.refusal.Place.{Place}
 use Rattle.elan_text.specs.declared.refusal.Refusal.{Refusal}
@@ -12,8 +12,9 @@ use Rattle.elan_syntax.proofs.ExactStreams.{stream_gives}
 use Rattle.elan_syntax.proofs.Whole.{two_values, two_refusals, value_refused}
 use Rattle.elan_modules.specs.Visits.{Library, Halted, Refuses, Silent}
 use Rattle.elan_check.specs.declared.prepared.Prepared.{Prepared}
+use Rattle.elan_cli.specs.declared.given.Options.{Options}
 use Rattle.elan_run.specs.declared.status.Status.{Status}
-use Rattle.elan_run.specs.Verdict.{Asks, asked_of, LacksOutline, most_bytes, Verdict, Misused, TooLong, BadToken, BadOutline, BadProgram, Accepted, IsVerdict, IsSilent, IsReport, text_for, status_for}
+use Rattle.elan_run.specs.Verdict.{AreAccepted, Asks, asked_of, LacksOutline, most_bytes, Verdict, Misused, TooLong, BadToken, BadOutline, BadProgram, Accepted, IsVerdict, IsSilent, IsReport, text_for, status_for}
 
 -- what is asked
 abbrev Asked : Type 0
@@ -77,9 +78,18 @@ lacks_once bytes c d at there a b =
     let P : List Token → Type 0 = λ ts. RefusesOutline bytes ts c at in
     two_refusals stream stream_gives bytes b.0 c d at there (subst P (fits_once bytes a.0 b.0 a.1 b.1) a.2) b.2
 
--- no words are not some words
-no_words : {X : Type 0} (n : ℕ) → 0 < n → n ≡ 0 → X
-no_words n some none = absurd (omega arith)
+-- words are not both refused and accepted
+not_chosen : {X : Type 0} (c : Option Options) → c ≡ None → AreAccepted c → X
+not_chosen None refused accepted = absurd accepted
+not_chosen (Some o) refused accepted = absurd cc
+
+-- words that choose something are accepted
+pub accepted_of : (c : Option Options) (o : Options) → c ≡ Some o → AreAccepted c
+accepted_of c o is = subst AreAccepted (sym is) tt
+
+-- words choose one thing
+chosen_once : (c : Option Options) (o q : Options) → c ≡ Some o → c ≡ Some q → o ≡ q
+chosen_once c o q a b = cc
 
 -- what is too long is not within the limit
 not_within : {X : Type 0} (n : ℕ) → most_bytes < n → n ≤ most_bytes → X
@@ -93,56 +103,57 @@ bad_outline_once : (c d : Code) (at there : Place) → (c ≡ d) × (at ≡ ther
 bad_outline_once c d at there e = ap (λ x. BadOutline x at) e.0 ∙ ap (BadOutline d) e.1
 
 -- one verdict applies
-pub one_verdict : (n : ℕ) (library : Library) (bytes : List ℕ) (v w : Verdict) → IsVerdict n library bytes v → IsVerdict n library bytes w → v ≡ w
-one_verdict n library bytes Misused Misused a b = refl
-one_verdict n library bytes Misused TooLong a b = no_words n a b.0
-one_verdict n library bytes Misused (BadToken d there) a b = no_words n a b.0
-one_verdict n library bytes Misused (BadOutline d there) a b = no_words n a b.0
-one_verdict n library bytes Misused (BadProgram y) a b = no_words n a b.0
-one_verdict n library bytes Misused (Accepted q) a b = no_words n a b.0
-one_verdict n library bytes TooLong Misused a b = no_words n b a.0
-one_verdict n library bytes TooLong TooLong a b = refl
-one_verdict n library bytes TooLong (BadToken d there) a b = not_within (length bytes) a.1 b.1
-one_verdict n library bytes TooLong (BadOutline d there) a b = not_within (length bytes) a.1 b.1
-one_verdict n library bytes TooLong (BadProgram y) a b = not_within (length bytes) a.1 b.1
-one_verdict n library bytes TooLong (Accepted q) a b = not_within (length bytes) a.1 b.1
-one_verdict n library bytes (BadToken c at) Misused a b = no_words n b a.0
-one_verdict n library bytes (BadToken c at) TooLong a b = not_within (length bytes) b.1 a.1
-one_verdict n library bytes (BadToken c at) (BadToken d there) a b = bad_token_once c d at there (refuses_once bytes c d at there a.2 b.2)
-one_verdict n library bytes (BadToken c at) (BadOutline d there) a b = absurd (apart bytes b.2.0 c at b.2.1 a.2)
-one_verdict n library bytes (BadToken c at) (BadProgram y) a b = absurd (apart bytes b.2.0 c at b.2.2 a.2)
-one_verdict n library bytes (BadToken c at) (Accepted q) a b = absurd (apart bytes b.2.0 c at b.2.2 a.2)
-one_verdict n library bytes (BadOutline c at) Misused a b = no_words n b a.0
-one_verdict n library bytes (BadOutline c at) TooLong a b = not_within (length bytes) b.1 a.1
-one_verdict n library bytes (BadOutline c at) (BadToken d there) a b = absurd (apart bytes a.2.0 d there a.2.1 b.2)
-one_verdict n library bytes (BadOutline c at) (BadOutline d there) a b = bad_outline_once c d at there (lacks_once bytes c d at there a.2 b.2)
-one_verdict n library bytes (BadOutline c at) (BadProgram y) a b = asks_lacks library bytes (Err (Refuses y)) c at b.2 a.2
-one_verdict n library bytes (BadOutline c at) (Accepted q) a b = asks_lacks library bytes (Ok q) c at b.2 a.2
-one_verdict n library bytes (BadProgram x) Misused a b = no_words n b a.0
-one_verdict n library bytes (BadProgram x) TooLong a b = not_within (length bytes) b.1 a.1
-one_verdict n library bytes (BadProgram x) (BadToken d there) a b = absurd (apart bytes a.2.0 d there a.2.2 b.2)
-one_verdict n library bytes (BadProgram x) (BadOutline d there) a b = asks_lacks library bytes (Err (Refuses x)) d there a.2 b.2
-one_verdict n library bytes (BadProgram x) (BadProgram y) a b = ap BadProgram (refusal_once library bytes x y a.2 b.2)
-one_verdict n library bytes (BadProgram x) (Accepted q) a b = not_both library bytes q (Refuses x) b.2 a.2
-one_verdict n library bytes (Accepted p) Misused a b = no_words n b a.0
-one_verdict n library bytes (Accepted p) TooLong a b = not_within (length bytes) b.1 a.1
-one_verdict n library bytes (Accepted p) (BadToken d there) a b = absurd (apart bytes a.2.0 d there a.2.2 b.2)
-one_verdict n library bytes (Accepted p) (BadOutline d there) a b = asks_lacks library bytes (Ok p) d there a.2 b.2
-one_verdict n library bytes (Accepted p) (BadProgram y) a b = not_both library bytes p (Refuses y) a.2 b.2
-one_verdict n library bytes (Accepted p) (Accepted q) a b = ap Accepted (program_once library bytes p q a.2 b.2)
+pub one_verdict : (c : Option Options) (library : Library) (bytes : List ℕ) (v w : Verdict) → IsVerdict c library bytes v → IsVerdict c library bytes w → v ≡ w
+one_verdict c library bytes Misused Misused a b = refl
+one_verdict c library bytes Misused TooLong a b = not_chosen c a b.0
+one_verdict c library bytes Misused (BadToken d there) a b = not_chosen c a b.0
+one_verdict c library bytes Misused (BadOutline d there) a b = not_chosen c a b.0
+one_verdict c library bytes Misused (BadProgram y) a b = not_chosen c a b.0
+one_verdict c library bytes Misused (Accepted q y) a b = not_chosen c a (accepted_of c q b.0)
+one_verdict c library bytes TooLong Misused a b = not_chosen c b a.0
+one_verdict c library bytes TooLong TooLong a b = refl
+one_verdict c library bytes TooLong (BadToken d there) a b = not_within (length bytes) a.1 b.1
+one_verdict c library bytes TooLong (BadOutline d there) a b = not_within (length bytes) a.1 b.1
+one_verdict c library bytes TooLong (BadProgram y) a b = not_within (length bytes) a.1 b.1
+one_verdict c library bytes TooLong (Accepted o q) a b = not_within (length bytes) a.1 b.1
+one_verdict c library bytes (BadToken code at) Misused a b = not_chosen c b a.0
+one_verdict c library bytes (BadToken code at) TooLong a b = not_within (length bytes) b.1 a.1
+one_verdict c library bytes (BadToken code at) (BadToken d there) a b = bad_token_once code d at there (refuses_once bytes code d at there a.2 b.2)
+one_verdict c library bytes (BadToken code at) (BadOutline d there) a b = absurd (apart bytes b.2.0 code at b.2.1 a.2)
+one_verdict c library bytes (BadToken code at) (BadProgram y) a b = absurd (apart bytes b.2.0 code at b.2.2 a.2)
+one_verdict c library bytes (BadToken code at) (Accepted o q) a b = absurd (apart bytes b.2.0 code at b.2.2 a.2)
+one_verdict c library bytes (BadOutline code at) Misused a b = not_chosen c b a.0
+one_verdict c library bytes (BadOutline code at) TooLong a b = not_within (length bytes) b.1 a.1
+one_verdict c library bytes (BadOutline code at) (BadToken d there) a b = absurd (apart bytes a.2.0 d there a.2.1 b.2)
+one_verdict c library bytes (BadOutline code at) (BadOutline d there) a b = bad_outline_once code d at there (lacks_once bytes code d at there a.2 b.2)
+one_verdict c library bytes (BadOutline code at) (BadProgram y) a b = asks_lacks library bytes (Err (Refuses y)) code at b.2 a.2
+one_verdict c library bytes (BadOutline code at) (Accepted o q) a b = asks_lacks library bytes (Ok q) code at b.2 a.2
+one_verdict c library bytes (BadProgram x) Misused a b = not_chosen c b a.0
+one_verdict c library bytes (BadProgram x) TooLong a b = not_within (length bytes) b.1 a.1
+one_verdict c library bytes (BadProgram x) (BadToken d there) a b = absurd (apart bytes a.2.0 d there a.2.2 b.2)
+one_verdict c library bytes (BadProgram x) (BadOutline d there) a b = asks_lacks library bytes (Err (Refuses x)) d there a.2 b.2
+one_verdict c library bytes (BadProgram x) (BadProgram y) a b = ap BadProgram (refusal_once library bytes x y a.2 b.2)
+one_verdict c library bytes (BadProgram x) (Accepted o q) a b = not_both library bytes q (Refuses x) b.2 a.2
+one_verdict c library bytes (Accepted o p) Misused a b = not_chosen c b (accepted_of c o a.0)
+one_verdict c library bytes (Accepted o p) TooLong a b = not_within (length bytes) b.1 a.1
+one_verdict c library bytes (Accepted o p) (BadToken d there) a b = absurd (apart bytes a.2.0 d there a.2.2 b.2)
+one_verdict c library bytes (Accepted o p) (BadOutline d there) a b = asks_lacks library bytes (Ok p) d there a.2 b.2
+one_verdict c library bytes (Accepted o p) (BadProgram y) a b = not_both library bytes p (Refuses y) a.2 b.2
+one_verdict c library bytes (Accepted o p) (Accepted q u) a b =
+    ap₂ Accepted (chosen_once c o q a.0 b.0) (program_once library bytes p u a.2 b.2)
 
 -- what has a verdict comes to no name of which nothing is told
-pub told_once : (n : ℕ) (library : Library) (bytes : List ℕ) (v : Verdict) → IsVerdict n library bytes v → IsSilent n library bytes → ⊥
-told_once n library bytes Misused a b = no_words n a b.0
-told_once n library bytes TooLong a b = not_within (length bytes) a.1 b.1
-told_once n library bytes (BadToken c at) a b = apart bytes b.2.0 c at b.2.2 a.2
-told_once n library bytes (BadOutline c at) a b = asks_lacks library bytes (Err Silent) c at b.2 a.2
-told_once n library bytes (BadProgram x) a b = no_silent x (halted_once library bytes (Refuses x) Silent a.2 b.2)
-told_once n library bytes (Accepted p) a b = not_both library bytes p Silent a.2 b.2
+pub told_once : (c : Option Options) (library : Library) (bytes : List ℕ) (v : Verdict) → IsVerdict c library bytes v → IsSilent c library bytes → ⊥
+told_once c library bytes Misused a b = not_chosen c a b.0
+told_once c library bytes TooLong a b = not_within (length bytes) a.1 b.1
+told_once c library bytes (BadToken code at) a b = apart bytes b.2.0 code at b.2.2 a.2
+told_once c library bytes (BadOutline code at) a b = asks_lacks library bytes (Err Silent) code at b.2 a.2
+told_once c library bytes (BadProgram x) a b = no_silent x (halted_once library bytes (Refuses x) Silent a.2 b.2)
+told_once c library bytes (Accepted o p) a b = not_both library bytes p Silent a.2 b.2
 
 -- one text and one status are the report
-pub one_report : (n : ℕ) (library : Library) (bytes text other : List ℕ) (answer another : Status)
-    → IsReport n library bytes text answer → IsReport n library bytes other another → (text ≡ other) × (answer ≡ another)
-one_report n library bytes text other answer another a b =
-    let same : a.verdict ≡ b.verdict = one_verdict n library bytes a.verdict b.verdict a.applies b.applies in
+pub one_report : (c : Option Options) (library : Library) (bytes text other : List ℕ) (answer another : Status)
+    → IsReport c library bytes text answer → IsReport c library bytes other another → (text ≡ other) × (answer ≡ another)
+one_report c library bytes text other answer another a b =
+    let same : a.verdict ≡ b.verdict = one_verdict c library bytes a.verdict b.verdict a.applies b.applies in
     (a.says.text_is ∙ ap text_for same ∙ sym b.says.text_is, a.says.answer_is ∙ ap status_for same ∙ sym b.says.answer_is)

@@ -11,6 +11,7 @@ use Rattle.elan_modules.specs.Walks.{Shelf, IsSound, Comes, is_fault}
 use Rattle.elan_modules.specs.Loads.{itself}
 use Rattle.elan_check.specs.declared.prepared.Prepared.{Prepared}
 use Rattle.elan_check.specs.Validity.{IsPrepared}
+use Rattle.elan_cli.specs.declared.given.Options.{Options}
 use Rattle.elan_run.specs.declared.answer.Answer.{Answer}
 use Rattle.elan_run.specs.declared.answer.Unanswered.{Unanswered}
 use Rattle.elan_run.specs.declared.answer.Unanswered.TheVariants as unanswered
@@ -35,12 +36,12 @@ pub record IsPreparedIn (flat : Flat) (result : Result Prepared FlattenRefusal) 
 
 -- the text and the status are those of what a call found; or memory was wanted for them, or for what was to be found, or
 -- a loader failed
-abbrev pub IsTold : Result Prepared FlattenRefusal → Result Answer Unanswered → Type 0
-IsTold (Ok p) (Ok a) = Says (Accepted p) a.text.items a.status
-IsTold (Ok p) (Err why) = why ≡ unanswered.NoMemory
-IsTold (Err (Refused r)) (Ok a) = Says (BadProgram r) a.text.items a.status
-IsTold (Err (Refused r)) (Err why) = why ≡ unanswered.NoMemory
-IsTold (Err LoaderFault) (Ok a) = ⊥
-IsTold (Err LoaderFault) (Err why) = why ≡ unanswered.LoaderFault
-IsTold (Err NoMemory) (Ok a) = ⊥
-IsTold (Err NoMemory) (Err why) = why ≡ unanswered.NoMemory
+abbrev pub IsTold : Options → Result Prepared FlattenRefusal → Result Answer Unanswered → Type 0
+IsTold o (Ok p) (Ok a) = Says (Accepted o p) a.text.items a.status
+IsTold o (Ok p) (Err why) = why ≡ unanswered.NoMemory
+IsTold o (Err (Refused r)) (Ok a) = Says (BadProgram r) a.text.items a.status
+IsTold o (Err (Refused r)) (Err why) = why ≡ unanswered.NoMemory
+IsTold o (Err LoaderFault) (Ok a) = ⊥
+IsTold o (Err LoaderFault) (Err why) = why ≡ unanswered.LoaderFault
+IsTold o (Err NoMemory) (Ok a) = ⊥
+IsTold o (Err NoMemory) (Err why) = why ≡ unanswered.NoMemory

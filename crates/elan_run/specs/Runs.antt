@@ -6,12 +6,13 @@ use Rattle.elan_loaders.specs.Libraries.{Library as Texts, SomeRose}
 use Rattle.elan_modules.specs.Visits.{Library}
 use Rattle.elan_modules.specs.Walks.{Shelf}
 use Rattle.elan_check.specs.declared.prepared.Prepared.{Prepared}
+use Rattle.elan_cli.specs.declared.given.Options.{Options}
 use Rattle.elan_run.specs.declared.answer.Answer.{Answer}
 use Rattle.elan_run.specs.declared.answer.Unanswered.{Unanswered}
 use Rattle.elan_run.specs.declared.answer.Unanswered.TheVariants as unanswered
 use Rattle.elan_run.specs.declared.status.Status.{Status}
 use Rattle.elan_run.specs.declared.status.Status.TheVariants as status
-use Rattle.elan_run.specs.Verdict.{IsVerdict, IsReport, IsReportFor, StandsFor, NeedsSome, Accepted, text_for}
+use Rattle.elan_run.specs.Verdict.{AreAccepted, IsRead, input_of, IsVerdict, IsReport, IsReportFor, StandsFor, NeedsSome, Accepted, text_for}
 
 -- ---- what a run met and left
 
@@ -56,30 +57,48 @@ abbrev pub Told : Option (List ℕ) → List ℕ → Type 0
 Told None bytes = Unit {0}
 Told (Some left) bytes = left ≡ bytes
 
--- the whole text for what the source had left was written, and this is the answer to it
-pub record Answers (words : ℕ) (left : Option (List ℕ)) (told : List (Option Texts)) (before after : Option (List ℕ))
-    (answer : Status) : Type 0 where
+-- these are the bytes that a source has left, where it is read and tells that; where it is not read, any will do
+abbrev pub MayFeedWith : Option ℕ → Option (List ℕ) → List ℕ → Type 0
+MayFeedWith None left bytes = Told left bytes
+MayFeedWith (Some number) left bytes = Unit {0}
+
+abbrev pub MayFeed : Option Options → Option (List ℕ) → List ℕ → Type 0
+MayFeed None left bytes = Unit {0}
+MayFeed (Some o) left bytes = MayFeedWith o.demo left bytes
+
+-- a source tells that these are the bytes that it has left, or it is not read
+abbrev pub FeedsWith : Option ℕ → Option (List ℕ) → List ℕ → Type 0
+FeedsWith None left bytes = left ≡ Some bytes
+FeedsWith (Some number) left bytes = Unit {0}
+
+abbrev pub Feeds : Option Options → Option (List ℕ) → List ℕ → Type 0
+Feeds None left bytes = Unit {0}
+Feeds (Some o) left bytes = FeedsWith o.demo left bytes
+
+-- the whole text for the words and the input was written, and this is the answer to them
+pub record Answers (chosen : Option Options) (left : Option (List ℕ)) (told : List (Option Texts))
+    (before after : Option (List ℕ)) (answer : Status) : Type 0 where
   pub bytes : List ℕ
   pub text : List ℕ
-  pub is_left : Told left bytes
-  pub report : IsReportFor words told bytes text answer
+  pub is_left : MayFeed chosen left bytes
+  pub report : IsReportFor chosen told (input_of chosen bytes) text answer
   pub written : Appends before text after
 
--- a prefix of the text for what the source had left was written that is not all of it
-pub record BreaksOff (words : ℕ) (left : Option (List ℕ)) (told : List (Option Texts)) (before after : Option (List ℕ))
-    : Type 0 where
+-- a prefix of the text for the words and the input was written that is not all of it
+pub record BreaksOff (chosen : Option Options) (left : Option (List ℕ)) (told : List (Option Texts))
+    (before after : Option (List ℕ)) : Type 0 where
   pub bytes : List ℕ
   pub text : List ℕ
   pub answer : Status
-  pub is_left : Told left bytes
-  pub report : IsReportFor words told bytes text answer
+  pub is_left : MayFeed chosen left bytes
+  pub report : IsReportFor chosen told (input_of chosen bytes) text answer
   pub written : AppendsPart before text after
 
--- the source had a stream left that needs loaders
-pub record Needed (left : Option (List ℕ)) : Type 0 where
+-- the input needs loaders
+pub record Needed (chosen : Option Options) (left : Option (List ℕ)) : Type 0 where
   pub bytes : List ℕ
-  pub is_left : Told left bytes
-  pub needs : NeedsSome bytes
+  pub is_left : MayFeed chosen left bytes
+  pub needs : NeedsSome (input_of chosen bytes)
 
 -- the status is this one and the whole text was written, or memory was wanted and nothing was written
 abbrev pub Completes : Status → List ℕ → Option (List ℕ) → Option (List ℕ) → Status → Type 0
@@ -113,33 +132,35 @@ abbrev pub IsWhy : List ℕ → Shelf → Shelf → Unanswered → Type 0
 IsWhy bytes s t unanswered.LoaderFault = LoadFailed s t × NeedsSome bytes
 IsWhy bytes s t unanswered.NoMemory = Unit {0}
 
--- ---- a whole run with so many words
+-- ---- a whole run, for what its words choose
 
-module _ (words : ℕ) (r : Reading) (s t : Shelf) (w : Writing) where
-  -- What a run leaves, by its status: for `Done`, `Usage` and `Refused` the whole text that goes with it, for what the
-  -- source had left; for a fault its cause; and for a fault of the source, a fault of a loader and want of memory nothing
-  -- is written.
+module _ (chosen : Option Options) (r : Reading) (s t : Shelf) (w : Writing) where
+  -- What a run leaves, by its status: for `Done`, `Usage` and `Refused` the whole text that goes with it, for its words and
+  -- its input; for a fault its cause; and for a fault of the source, a fault of a loader and want of memory nothing is
+  -- written. `Usage` is the answer to words that are refused, and only words that are accepted have a run read the source
+  -- or ask the loaders.
   abbrev pub Leaves : Status → Type 0
-  Leaves status.Done = Answers words r.left s.told w.before w.after status.Done × IsAtEnd r.past
-  Leaves status.Usage = Answers words r.left s.told w.before w.after status.Usage
-  Leaves (status.Refused code) = Answers words r.left s.told w.before w.after (status.Refused code)
-  Leaves status.ReadFault = (words ≡ 0) × ReadFailed r × (w.after ≡ w.before)
-  Leaves status.WriteFault = WriteFailed w × BreaksOff words r.left s.told w.before w.after
-  Leaves status.LoaderFault = (words ≡ 0) × LoadFailed s t × Needed r.left × (w.after ≡ w.before)
-  Leaves status.NoMemory = (words ≡ 0) × (w.after ≡ w.before)
+  Leaves status.Done = Answers chosen r.left s.told w.before w.after status.Done × (IsRead chosen → IsAtEnd r.past)
+  Leaves status.Usage = (chosen ≡ None) × Answers chosen r.left s.told w.before w.after status.Usage
+  Leaves (status.Refused code) = Answers chosen r.left s.told w.before w.after (status.Refused code)
+  Leaves status.ReadFault = IsRead chosen × ReadFailed r × (w.after ≡ w.before)
+  Leaves status.WriteFault = WriteFailed w × BreaksOff chosen r.left s.told w.before w.after
+  Leaves status.LoaderFault = AreAccepted chosen × LoadFailed s t × Needed chosen r.left × (w.after ≡ w.before)
+  Leaves status.NoMemory = AreAccepted chosen × (w.after ≡ w.before)
 
   -- Where the input is accepted, over a library that may be taken for the loaders, a run that met no fault and was refused
-  -- no memory wrote exactly its report, and any other run wrote a prefix of it.
+  -- no memory wrote exactly its report, and any other run wrote a prefix of it. For an input that is generated the summary
+  -- stands in place of the report.
   abbrev pub MeetsHeadline : Status → Type 0
   MeetsHeadline result =
-      (bytes : List ℕ) (library : Library) (p : Prepared) → r.left ≡ Some bytes → StandsFor s.told bytes library
-      → IsVerdict words library bytes (Accepted p)
-      → Headline (text_for (Accepted p)) w.before w.after (ReadFailed r ⊎ (LoadFailed s t ⊎ WriteFailed w)) result
+      (bytes : List ℕ) (library : Library) (o : Options) (p : Prepared) → Feeds chosen r.left bytes
+      → StandsFor s.told (input_of chosen bytes) library → IsVerdict chosen library (input_of chosen bytes) (Accepted o p)
+      → Headline (text_for (Accepted o p)) w.before w.after (ReadFailed r ⊎ (LoadFailed s t ⊎ WriteFailed w)) result
 
-  -- For every input, over a library that may be taken for the loaders: where no count of faults rose, the whole text was
-  -- written and the status is that of the input, or memory was wanted and nothing was written.
+  -- For all words and every input, over a library that may be taken for the loaders: where no count of faults rose, the whole
+  -- text was written and the status is that of words and input, or memory was wanted and nothing was written.
   abbrev pub IsComplete : Status → Type 0
   IsComplete result =
-      (bytes : List ℕ) (library : Library) (text : List ℕ) (answer : Status) → r.left ≡ Some bytes
-      → StandsFor s.told bytes library → IsReport words library bytes text answer
+      (bytes : List ℕ) (library : Library) (text : List ℕ) (answer : Status) → Feeds chosen r.left bytes
+      → StandsFor s.told (input_of chosen bytes) library → IsReport chosen library (input_of chosen bytes) text answer
       → (ReadFailed r → ⊥) → (LoadFailed s t → ⊥) → (WriteFailed w → ⊥) → Completes answer text w.before w.after result

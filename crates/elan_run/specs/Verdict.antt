@@ -1,6 +1,6 @@
--- What is written and answered for which input: the first case that applies decides. An input is the bytes of a stream with
--- the texts that loaders have for modules that it lacks.
-use Rattle.std.specs.Prelude.{◌≡◌, ◌<◌, ◌≤◌, ◌⊎◌, ℕ, false, true, Option, List, length, Result, Ok, Err}
+-- What is written and answered for which words and which input: the first case that applies decides. An input is the bytes of
+-- a stream with the texts that loaders have for modules that it lacks.
+use Rattle.std.specs.Prelude.{◌≡◌, ◌<◌, ◌≤◌, ◌⊎◌, ℕ, false, true, Option, Some, None, List, length, Result, Ok, Err}
 use Rattle.elan_text.specs.declared.refusal.Code.{Code}
 use Rattle.elan_text.specs.declared.refusal.Code.TheVariants.{E01}
 use Rattle.elan_text.specs.declared.refusal.Place.{Place}
@@ -25,20 +25,46 @@ use Rattle.elan_meaning.specs.declared.item.Item.{Item}
 use Rattle.elan_meaning.specs.Meaning.{answers}
 use Rattle.elan_run.specs.declared.status.Status.{Status}
 use Rattle.elan_run.specs.declared.status.Status.TheVariants as status
-use Rattle.elan_run.specs.Lines.{usage_line, refusal_line, report}
+use Rattle.elan_cli.specs.Line.{options_of}
+use Rattle.elan_cli.specs.Words.{Word}
+use Rattle.elan_cli.specs.declared.given.Options.{Options}
+use Rattle.elan_demo.specs.Demo.{demo_input}
+use Rattle.elan_run.specs.Lines.{usage_line, refusal_line, shown}
 use Rattle.elan_print.specs.Refusals as refusals
 
 -- how many bytes an input may have
 abbrev pub most_bytes : ℕ
 most_bytes = 4194304
 
--- how many items are written at most
-abbrev pub default_limit : ℕ
-default_limit = 1000000
+-- ---- what words choose
 
--- how many steps each path may take
-abbrev pub default_steps : ℕ
-default_steps = 1000
+-- the options that the words of a command line give for the plain engine, or none where the words are refused
+abbrev pub chosen_by : List Word → Option Options
+chosen_by words = options_of true words
+
+-- the words are accepted
+abbrev pub AreAccepted : Option Options → Type 0
+AreAccepted None = ⊥
+AreAccepted (Some o) = Unit {0}
+
+-- the input that is generated from a number, if there is one; else what the source has left
+abbrev pub input_with : Option ℕ → List ℕ → List ℕ
+input_with None bytes = bytes
+input_with (Some number) bytes = demo_input number
+
+-- the input of a run for what its words choose
+abbrev pub input_of : Option Options → List ℕ → List ℕ
+input_of None bytes = bytes
+input_of (Some o) bytes = input_with o.demo bytes
+
+-- the input of a run is what its source has left
+abbrev pub IsReadWith : Option ℕ → Type 0
+IsReadWith None = Unit {0}
+IsReadWith (Some number) = ⊥
+
+abbrev pub IsRead : Option Options → Type 0
+IsRead None = ⊥
+IsRead (Some o) = IsReadWith o.demo
 
 -- ---- what a stream asks
 
@@ -93,9 +119,9 @@ StandsFor told bytes library = IsSound library told ⊎ ((library ≡ nobody) ×
 
 -- ---- verdicts
 
--- the list that sequential backtracking defines
-abbrev pub items_of : Prepared → List Item
-items_of p = answers p.program p.start p.query default_steps
+-- the list that sequential backtracking defines, where each path has so many steps
+abbrev pub items_of : ℕ → Prepared → List Item
+items_of steps p = answers p.program p.start p.query steps
 
 -- what may be said of words and an input
 pub data Verdict : Type 0 where
@@ -104,25 +130,35 @@ pub data Verdict : Type 0 where
   BadToken : Code → Place → Verdict
   BadOutline : Code → Place → Verdict
   BadProgram : Refusal → Verdict
-  Accepted : Prepared → Verdict
+  Accepted : Options → Prepared → Verdict
 
--- Words are refused, where there are any: so many of them is all that counts. Of an input without words: it is too
--- long; or it has no tokens, and is refused at the least place that is at fault; or its tokens have no outline, and it is
--- refused at the token that decides; or its program is refused; or it is accepted.
-abbrev pub IsVerdict : ℕ → Library → List ℕ → Verdict → Type 0
-IsVerdict words library bytes Misused = 0 < words
-IsVerdict words library bytes TooLong = (words ≡ 0) × (most_bytes < length bytes)
-IsVerdict words library bytes (BadToken code at) =
-    (words ≡ 0) × (length bytes ≤ most_bytes) × RefusesToken bytes code at
-IsVerdict words library bytes (BadOutline code at) =
-    (words ≡ 0) × (length bytes ≤ most_bytes) × LacksOutline bytes code at
-IsVerdict words library bytes (BadProgram refusal) =
-    (words ≡ 0) × (length bytes ≤ most_bytes) × Asks library bytes (Err (Refuses refusal))
-IsVerdict words library bytes (Accepted p) = (words ≡ 0) × (length bytes ≤ most_bytes) × Asks library bytes (Ok p)
+-- The words are refused. Or they are accepted, and the input is too long; or it has no tokens, and is refused at the least
+-- place that is at fault; or its tokens have no outline, and it is refused at the token that decides; or its program is
+-- refused; or it is accepted, and the words choose how it runs.
+abbrev pub IsVerdict : Option Options → Library → List ℕ → Verdict → Type 0
+IsVerdict chosen library input Misused = chosen ≡ None
+IsVerdict chosen library input TooLong = AreAccepted chosen × (most_bytes < length input)
+IsVerdict chosen library input (BadToken code at) =
+    AreAccepted chosen × (length input ≤ most_bytes) × RefusesToken input code at
+IsVerdict chosen library input (BadOutline code at) =
+    AreAccepted chosen × (length input ≤ most_bytes) × LacksOutline input code at
+IsVerdict chosen library input (BadProgram refusal) =
+    AreAccepted chosen × (length input ≤ most_bytes) × Asks library input (Err (Refuses refusal))
+IsVerdict chosen library input (Accepted o p) =
+    (chosen ≡ Some o) × (length input ≤ most_bytes) × Asks library input (Ok p)
+
+-- the verdict is one of words that choose this
+abbrev pub Suits : Option Options → Verdict → Type 0
+Suits chosen Misused = chosen ≡ None
+Suits chosen TooLong = AreAccepted chosen
+Suits chosen (BadToken code at) = AreAccepted chosen
+Suits chosen (BadOutline code at) = AreAccepted chosen
+Suits chosen (BadProgram refusal) = AreAccepted chosen
+Suits chosen (Accepted o p) = chosen ≡ Some o
 
 -- there is no verdict, since the input comes to a name of which nothing is told
-abbrev pub IsSilent : ℕ → Library → List ℕ → Type 0
-IsSilent words library bytes = (words ≡ 0) × (length bytes ≤ most_bytes) × Asks library bytes (Err Silent)
+abbrev pub IsSilent : Option Options → Library → List ℕ → Type 0
+IsSilent chosen library input = AreAccepted chosen × (length input ≤ most_bytes) × Asks library input (Err Silent)
 
 -- a refusal of the whole stream stands at its first byte
 abbrev pub first_place : Place
@@ -135,7 +171,7 @@ text_for TooLong = refusal_line E01 first_place
 text_for (BadToken code at) = refusal_line code at
 text_for (BadOutline code at) = refusal_line code at
 text_for (BadProgram refusal) = refusals.refusal_line refusal
-text_for (Accepted p) = report p.program.signature default_limit (items_of p)
+text_for (Accepted o p) = shown o.demo p.program.signature o.limit (items_of o.steps p)
 
 -- what is answered for a verdict
 abbrev pub status_for : Verdict → Status
@@ -144,23 +180,25 @@ status_for TooLong = status.Refused E01
 status_for (BadToken code at) = status.Refused code
 status_for (BadOutline code at) = status.Refused code
 status_for (BadProgram refusal) = status.Refused refusal.code
-status_for (Accepted p) = status.Done
+status_for (Accepted o p) = status.Done
 
 -- this text and this status are those of the verdict
 pub record Says (verdict : Verdict) (text : List ℕ) (answer : Status) : Type 0 where
   pub text_is : text ≡ text_for verdict
   pub answer_is : answer ≡ status_for verdict
 
--- the text and the status for so many words and an input
-pub record IsReport (words : ℕ) (library : Library) (bytes text : List ℕ) (answer : Status) : Type 0 where
+-- the text and the status for what words choose and an input
+pub record IsReport (chosen : Option Options) (library : Library) (input text : List ℕ) (answer : Status) : Type 0 where
   pub verdict : Verdict
-  pub applies : IsVerdict words library bytes verdict
+  pub applies : IsVerdict chosen library input verdict
   pub says : Says verdict text answer
 
--- The text and the status are those of a verdict, and this is the verdict over each library that may be taken for the
--- loaders, where that tells enough.
-pub record IsReportFor (words : ℕ) (told : List (Option Texts)) (bytes text : List ℕ) (answer : Status) : Type 0 where
+-- The text and the status are those of a verdict of such words, and this is the verdict over each library that may be taken
+-- for the loaders, where that tells enough.
+pub record IsReportFor (chosen : Option Options) (told : List (Option Texts)) (input text : List ℕ) (answer : Status)
+    : Type 0 where
   pub verdict : Verdict
+  pub suits : Suits chosen verdict
   pub says : Says verdict text answer
-  pub applies : (library : Library) → StandsFor told bytes library
-      → IsVerdict words library bytes verdict ⊎ IsSilent words library bytes
+  pub applies : (library : Library) → StandsFor told input library
+      → IsVerdict chosen library input verdict ⊎ IsSilent chosen library input

@@ -1,8 +1,10 @@
 //! The text and the status for the bytes of an input.
 
-ghost use Rattle.std.specs.Prelude.{◌≡◌, ◌≤◌, ◌<◌, ◌^◌, length, IfOk, IfErr, map};
+ghost use Rattle.std.specs.Prelude.{◌≡◌, ◌≤◌, ◌<◌, ◌^◌, length, true, Some, IfOk, IfErr, map};
 ghost use Rattle.std.specs.List.{All};
 ghost use Rattle.elan_check.specs.Validity.{IsPrepared};
+ghost use Rattle.elan_cli.specs.Ranges.{AreInRange};
+ghost use Rattle.elan_demo.specs.Demo as demo;
 ghost use Rattle.elan_lexer.specs.Text.{Fits, IsInside};
 ghost use Rattle.elan_modules.specs.Walks.{shelf, Moved, Untouched};
 ghost use Rattle.elan_run.specs.Verdict as spec;
@@ -11,10 +13,12 @@ ghost use Rattle.elan_run.specs.Asked.{IsTold};
 ghost use Rattle.elan_run.specs.Runs.{IsWhy};
 ghost use Rattle.elan_run.specs.declared.answer.Unanswered.TheVariants.{NoMemory as WantsMemory};
 
-use crate::lines::{refusal_line, report};
+use crate::lines::{refusal_line, shown};
 use crate::program::asked;
 use crate::status::Status;
 use elan_check::Prepared;
+use elan_cli::Options;
+use elan_demo::demo_input;
 use elan_lexer::{Token, tokens};
 use elan_loaders::Loader;
 use elan_modules::FlattenRefusal;
@@ -23,11 +27,8 @@ use elan_syntax::outline;
 use elan_text::{Code, NoMemory, Place, Refusal, Stop};
 use std::alloc::{AllocError, Global};
 
-/// How many items are written at most.
-const LIMIT: u32 = 1_000_000;
-
-/// How many steps each path may take.
-const STEPS: u32 = 1_000;
+/// How many bytes an input may have.
+pub const MOST_BYTES: usize = 4_194_304;
 
 /// A text to be written, and the status that goes with it.
 #[derive(Drop)]
@@ -98,29 +99,36 @@ fn refused_program(alloc: Global, refusal: &Refusal) -> Result<Answer, NoMemory>
     })
 }
 
-/// The report of what is asked.
-fn accepted(alloc: Global, prepared: &Prepared) -> Result<Answer, NoMemory>
-    ensures { IfOk result (λ a. Says (Accepted prepared.now) a.text.items a.status) }
+/// What is written of what is asked.
+fn accepted(alloc: Global, options: &Options, prepared: &Prepared) -> Result<Answer, NoMemory>
+    requires { AreInRange true options.now }
+    ensures { IfOk result
+        (λ a. Says (Accepted options.now prepared.now) a.text.items a.status) }
 {
     let items = plain_items(
         alloc,
         &prepared.program,
         &prepared.start,
         &prepared.query,
-        STEPS,
+        options.steps,
     )?;
     Ok(Answer {
-        text: report(alloc, &prepared.program, LIMIT, items.as_slice())?,
+        text: shown(alloc, options, &prepared.program, items.as_slice())?,
         status: Status::Done,
     })
 }
 
 /// The text and the status for what a stream asks.
-fn told(alloc: Global, found: Result<Prepared, FlattenRefusal>) -> Result<Answer, Unanswered>
-    ensures { IsTold found result }
+fn told(
+    alloc: Global,
+    options: &Options,
+    found: Result<Prepared, FlattenRefusal>,
+) -> Result<Answer, Unanswered>
+    requires { AreInRange true options.now }
+    ensures { IsTold options.now found result }
 {
     match found {
-        Ok(prepared) => Ok(accepted(alloc, &prepared)?),
+        Ok(prepared) => Ok(accepted(alloc, options, &prepared)?),
         Err(FlattenRefusal::Refused(refusal)) => Ok(refused_program(alloc, &refusal)?),
         Err(FlattenRefusal::LoaderFault) => Err(Unanswered::LoaderFault),
         Err(FlattenRefusal::NoMemory) => Err(Unanswered::NoMemory),
@@ -130,15 +138,17 @@ fn told(alloc: Global, found: Result<Prepared, FlattenRefusal>) -> Result<Answer
 /// The text and the status for an input with these tokens.
 fn answered_of(
     alloc: Global,
+    options: &Options,
     bytes: &[u8],
     found: &[Token],
     loaders: &mut Vec<Box<dyn Loader>>,
 ) -> Result<Answer, Unanswered>
+    requires ranges { AreInRange true options.now }
     requires within { length bytes.now ≤ 4194304 }
     requires fits { Fits bytes.now found.now }
     requires inside { All (IsInside bytes.now) found.now }
     requires count { length found.now < 2 ^ 32 }
-    ensures report { IfOk result (λ a. IsReportFor 0 (map (λ l. library l) loaders.old.items)
+    ensures report { IfOk result (λ a. IsReportFor (Some options.now) (map (λ l. library l) loaders.old.items)
         bytes.now a.text.items a.status) }
     ensures why { IfErr result (λ e. IsWhy bytes.now
         (shelf (λ l. library l) (λ l. misses l) (λ l. failures l) loaders.old.items)
@@ -153,7 +163,7 @@ fn answered_of(
         (shelf (λ l. library l) (λ l. misses l) (λ l. failures l) loaders.new.items) }
 {
     match outline(alloc, bytes, found) {
-        Ok(outline) => told(alloc, asked(alloc, bytes, found, outline, loaders)),
+        Ok(outline) => told(alloc, options, asked(alloc, bytes, found, outline, loaders)),
         Err(Stop::Refused(refusal)) => Ok(unread(alloc, refusal.code, refusal.at)?),
         Err(Stop::NoMemory) => Err(Unanswered::NoMemory),
     }
@@ -162,11 +172,13 @@ fn answered_of(
 /// The text and the status for an input that is not too long.
 pub fn answered(
     alloc: Global,
+    options: &Options,
     bytes: &[u8],
     loaders: &mut Vec<Box<dyn Loader>>,
 ) -> Result<Answer, Unanswered>
-    requires { length bytes.now ≤ 4194304 }
-    ensures report { IfOk result (λ a. IsReportFor 0 (map (λ l. library l) loaders.old.items)
+    requires ranges { AreInRange true options.now }
+    requires within { length bytes.now ≤ 4194304 }
+    ensures report { IfOk result (λ a. IsReportFor (Some options.now) (map (λ l. library l) loaders.old.items)
         bytes.now a.text.items a.status) }
     ensures why { IfErr result (λ e. IsWhy bytes.now
         (shelf (λ l. library l) (λ l. misses l) (λ l. failures l) loaders.old.items)
@@ -181,8 +193,64 @@ pub fn answered(
         (shelf (λ l. library l) (λ l. misses l) (λ l. failures l) loaders.new.items) }
 {
     match tokens(alloc, bytes) {
-        Ok(found) => answered_of(alloc, bytes, found.as_slice(), loaders),
+        Ok(found) => answered_of(alloc, options, bytes, found.as_slice(), loaders),
         Err(Stop::Refused(refusal)) => Ok(refused(alloc, refusal.code, refusal.at)?),
         Err(Stop::NoMemory) => Err(Unanswered::NoMemory),
+    }
+}
+
+/// The text and the status for an input.
+fn answered_to(
+    alloc: Global,
+    options: &Options,
+    bytes: &[u8],
+    loaders: &mut Vec<Box<dyn Loader>>,
+) -> Result<Answer, Unanswered>
+    requires { AreInRange true options.now }
+    ensures report { IfOk result (λ a. IsReportFor (Some options.now) (map (λ l. library l) loaders.old.items)
+        bytes.now a.text.items a.status) }
+    ensures why { IfErr result (λ e. IsWhy bytes.now
+        (shelf (λ l. library l) (λ l. misses l) (λ l. failures l) loaders.old.items)
+        (shelf (λ l. library l) (λ l. misses l) (λ l. failures l) loaders.new.items) e) }
+    // What becomes of the loaders.
+    ensures moved { Moved
+        (shelf (λ l. library l) (λ l. misses l) (λ l. failures l) loaders.old.items)
+        (shelf (λ l. library l) (λ l. misses l) (λ l. failures l) loaders.new.items) }
+    ensures untouched { NeedsNone bytes.now
+        → Untouched
+        (shelf (λ l. library l) (λ l. misses l) (λ l. failures l) loaders.old.items)
+        (shelf (λ l. library l) (λ l. misses l) (λ l. failures l) loaders.new.items) }
+{
+    if bytes.len() > MOST_BYTES {
+        return too_long(alloc);
+    }
+    answered(alloc, options, bytes, loaders)
+}
+
+/// The text and the status for the input that is generated from a number.
+pub fn generated(
+    alloc: Global,
+    options: &Options,
+    number: u32,
+    loaders: &mut Vec<Box<dyn Loader>>,
+) -> Result<Answer, Unanswered>
+    requires { AreInRange true options.now }
+    ensures report { IfOk result (λ a. IsReportFor (Some options.now) (map (λ l. library l) loaders.old.items)
+        (demo.demo_input number) a.text.items a.status) }
+    ensures why { IfErr result (λ e. IsWhy (demo.demo_input number)
+        (shelf (λ l. library l) (λ l. misses l) (λ l. failures l) loaders.old.items)
+        (shelf (λ l. library l) (λ l. misses l) (λ l. failures l) loaders.new.items) e) }
+    // What becomes of the loaders.
+    ensures moved { Moved
+        (shelf (λ l. library l) (λ l. misses l) (λ l. failures l) loaders.old.items)
+        (shelf (λ l. library l) (λ l. misses l) (λ l. failures l) loaders.new.items) }
+    ensures untouched { NeedsNone (demo.demo_input number)
+        → Untouched
+        (shelf (λ l. library l) (λ l. misses l) (λ l. failures l) loaders.old.items)
+        (shelf (λ l. library l) (λ l. misses l) (λ l. failures l) loaders.new.items) }
+{
+    match demo_input(alloc, number) {
+        Ok(bytes) => answered_to(alloc, options, bytes.as_slice(), loaders),
+        Err(_) => Err(Unanswered::NoMemory),
     }
 }

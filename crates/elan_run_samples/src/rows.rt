@@ -18,7 +18,7 @@ use std::test::Fail;
 pub(crate) type Row<'a> = (&'a [u8], &'a [u8], &'a [u8], &'a [u8], &'a [u8], &'a [u8]);
 
 /// These parts, one behind the other.
-fn joined(alloc: Global, parts: &[&[u8]]) -> Result<Vec<u8>, NoMemory> {
+pub(crate) fn joined(alloc: Global, parts: &[&[u8]]) -> Result<Vec<u8>, NoMemory> {
     let mut all = Vec::new(alloc);
     for part in parts {
         all.extend_from_slice(part)?;
@@ -27,7 +27,7 @@ fn joined(alloc: Global, parts: &[&[u8]]) -> Result<Vec<u8>, NoMemory> {
 }
 
 /// The stream of a row.
-fn input(alloc: Global, row: &Row<'_>) -> Result<Vec<u8>, NoMemory> {
+pub(crate) fn input(alloc: Global, row: &Row<'_>) -> Result<Vec<u8>, NoMemory> {
     let (program, module, sort, start, query, _) = *row;
     joined(
         alloc,
@@ -49,7 +49,7 @@ fn input(alloc: Global, row: &Row<'_>) -> Result<Vec<u8>, NoMemory> {
 }
 
 /// What a run without words writes and answers, with these loaders.
-fn outcome_with(
+pub(crate) fn outcome_with(
     alloc: Global,
     input: &[u8],
     loaders: &mut Vec<Box<dyn Loader>>,
@@ -61,7 +61,7 @@ fn outcome_with(
 }
 
 /// What a run without words and without loaders writes and answers.
-fn outcome(alloc: Global, input: &[u8]) -> Result<(Status, Vec<u8>), NoMemory> {
+pub(crate) fn outcome(alloc: Global, input: &[u8]) -> Result<(Status, Vec<u8>), NoMemory> {
     let mut none: Vec<Box<dyn Loader>> = Vec::new(alloc);
     outcome_with(alloc, input, &mut none)
 }
@@ -78,7 +78,10 @@ pub(crate) fn are_done<R: Abort + AllocGlobal>(rt: &R, rows: &[Row<'_>]) -> Resu
 }
 
 /// Each input is refused with its line and its code.
-fn are_refused<R: Abort + AllocGlobal>(rt: &R, rows: &[(&[u8], &[u8], Code)]) -> Result<(), Fail> {
+pub(crate) fn are_refused<R: Abort + AllocGlobal>(
+    rt: &R,
+    rows: &[(&[u8], &[u8], Code)],
+) -> Result<(), Fail> {
     let alloc = rt.alloc();
     for row in rows {
         let (status, written) = outcome(alloc, row.0)?;
@@ -477,14 +480,14 @@ fn the_257th_token_of_a_strategy_is_too_many(rt: HostRuntime) -> Result<(), Fail
 }
 
 /// A loader that has one text by the name `list`, and fails at these fetches.
-fn lists(alloc: Global, text: &[u8], failing: Vec<u64>) -> Result<MemoryLoader, Fail> {
+pub(crate) fn lists(alloc: Global, text: &[u8], failing: Vec<u64>) -> Result<MemoryLoader, Fail> {
     let mut texts = BTreeMap::new(alloc);
     texts.insert(String::from_str(alloc, "list")?, text.to_vec(alloc)?)?;
     Ok(MemoryLoader::new(alloc, texts, failing))
 }
 
 /// A list of two integers.
-const TWO_OF_A_LIST: Row<'static> = (
+pub(crate) const TWO_OF_A_LIST: Row<'static> = (
     USES,
     b"use",
     b"list[int]",
@@ -530,20 +533,8 @@ fn a_refusal_in_a_loaded_text_names_its_module(rt: HostRuntime) -> Result<(), Fa
     Ok(())
 }
 
-#[test]
-fn a_loader_that_fails_writes_nothing(rt: HostRuntime) -> Result<(), Fail> {
-    let alloc = rt.alloc();
-    let stream = input(alloc, &TWO_OF_A_LIST)?;
-    let mut loaders: Vec<Box<dyn Loader>> = Vec::new(alloc);
-    loaders.push(Box::new(alloc, lists(alloc, LIST, [1].to_vec(alloc)?)?)?)?;
-    let (status, written) = outcome_with(alloc, stream.as_slice(), &mut loaders)?;
-    assert_eq!(rt; written.len(), 0);
-    assert_eq!(rt; status, Status::LoaderFault);
-    Ok(())
-}
-
 /// Two results of one query.
-const BOTH: Row<'static> = (
+pub(crate) const BOTH: Row<'static> = (
     CHOICE,
     b"choice",
     b"s",
@@ -553,48 +544,11 @@ const BOTH: Row<'static> = (
 );
 
 /// As `outcome`, with a source that never fails and gives all that it is asked for.
-fn status_of(alloc: Global, input: &[u8]) -> Result<Status, NoMemory> {
+pub(crate) fn status_of(alloc: Global, input: &[u8]) -> Result<Status, NoMemory> {
     let mut none: Vec<Box<dyn Loader>> = Vec::new(alloc);
     let mut source = SteadySource::new(input.to_vec(alloc)?);
     let mut sink = MemorySink::new(alloc, 1_000, Vec::new(alloc));
     Ok(run_plain(alloc, &[], &mut source, &mut none, &mut sink))
-}
-
-#[test]
-fn a_front_of_a_program_ends_too_early(rt: HostRuntime) -> Result<(), Fail> {
-    let alloc = rt.alloc();
-    let input = input(alloc, &BOTH)?;
-    // All that ends before the `d` of the last `end`, which a line feed follows.
-    for count in 0..input.len().saturating_sub(2) {
-        let status = status_of(alloc, &input.as_slice()[..count])?;
-        assert_eq!(rt;
-            status,
-            Status::Refused(Code::E05),
-            "the first {count} bytes"
-        );
-    }
-    let status = status_of(alloc, &input.as_slice()[..input.len().saturating_sub(1)])?;
-    assert_eq!(rt; status, Status::Done);
-    Ok(())
-}
-
-#[test]
-fn one_byte_past_the_limit_is_too_long(rt: HostRuntime) -> Result<(), Fail> {
-    let alloc = rt.alloc();
-    let mut input = input(alloc, &BOTH)?;
-    for _ in input.len()..4_194_304 {
-        input.push(b' ')?;
-    }
-    assert_eq!(rt; status_of(alloc, input.as_slice())?, Status::Done);
-    input.push(b' ')?;
-    are_refused(
-        &rt,
-        &[(
-            input.as_slice(),
-            b"error E01 1:1 input too long\n",
-            Code::E01,
-        )],
-    )
 }
 
 #[test]
@@ -610,52 +564,6 @@ fn comments_and_blank_lines_change_nothing(rt: HostRuntime) -> Result<(), Fail> 
             b"[1] result term: b\n[2] result term: c\n[] end\n",
         )],
     )
-}
-
-#[test]
-fn a_word_gives_the_usage_line_and_reads_nothing(rt: HostRuntime) -> Result<(), Fail> {
-    let alloc = rt.alloc();
-    let words = [String::from_str(alloc, "--plain")?];
-    let mut none: Vec<Box<dyn Loader>> = Vec::new(alloc);
-    let mut source = MemorySource::new(input(alloc, &BOTH)?, 7, [1].to_vec(alloc)?);
-    let mut sink = MemorySink::new(alloc, 1_000, Vec::new(alloc));
-    assert_eq!(rt;
-        run_plain(alloc, &words, &mut source, &mut none, &mut sink),
-        Status::Usage
-    );
-    assert_eq!(rt;
-        sink.written(),
-        b"usage: elan [--workers W] [--limit L] [--steps N] [--plain] [--demo K]\n".as_slice()
-    );
-    Ok(())
-}
-
-#[test]
-fn a_sink_that_fails_has_a_front_of_the_report(rt: HostRuntime) -> Result<(), Fail> {
-    let alloc = rt.alloc();
-    let mut none: Vec<Box<dyn Loader>> = Vec::new(alloc);
-    let mut source = MemorySource::new(input(alloc, &BOTH)?, 100, Vec::new(alloc));
-    let mut sink = MemorySink::new(alloc, 8, [2].to_vec(alloc)?);
-    assert_eq!(rt;
-        run_plain(alloc, &[], &mut source, &mut none, &mut sink),
-        Status::WriteFault
-    );
-    assert_eq!(rt; sink.written(), b"[1] resu".as_slice());
-    Ok(())
-}
-
-#[test]
-fn a_source_that_fails_writes_nothing(rt: HostRuntime) -> Result<(), Fail> {
-    let alloc = rt.alloc();
-    let mut none: Vec<Box<dyn Loader>> = Vec::new(alloc);
-    let mut source = MemorySource::new(input(alloc, &BOTH)?, 100, [1].to_vec(alloc)?);
-    let mut sink = MemorySink::new(alloc, 100, Vec::new(alloc));
-    assert_eq!(rt;
-        run_plain(alloc, &[], &mut source, &mut none, &mut sink),
-        Status::ReadFault
-    );
-    assert_eq!(rt; sink.written().len(), 0);
-    Ok(())
 }
 
 #[test]

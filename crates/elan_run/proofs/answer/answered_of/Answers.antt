@@ -3,12 +3,12 @@ use Rattle.elan_run.proofs.answer.answered_of.Goals as goal
 
 pub returns-in-Ok-clause-report : goal.returns-in-Ok-clause-report
 returns-in-Ok-clause-report g c =
-    reported _ _ _ c.requires.within c.requires.fits c.in-Ok.ensures.found _ _ c.asked.result c.told.result
+    reported _ _ _ _ c.requires.within c.requires.fits c.in-Ok.ensures.found _ _ c.asked.result c.told.result
     c.asked.ensures.tells c.told.ensures
 
 pub returns-in-Ok-clause-why : goal.returns-in-Ok-clause-why
 returns-in-Ok-clause-why g c =
-    told_why _ _ _ c.requires.within c.requires.fits c.in-Ok.ensures.found _ _ c.asked.result c.told.result
+    told_why _ _ _ _ c.requires.within c.requires.fits c.in-Ok.ensures.found _ _ c.asked.result c.told.result
     c.asked.ensures.tells c.told.ensures
 
 pub returns-in_err-unread-in-Err-Refused-clause-moved :

@@ -1,13 +1,24 @@
-use Rattle.std.proofs.Common.{◌<◌, length, arith}
+use Rattle.std.proofs.Common.{◌≡◌, ◌∙◌, None, Some, sym}
+use Rattle.elan_cli.specs.Words.{texts}
+use Rattle.elan_run.specs.Verdict.{chosen_by}
 use Rattle.elan_run.proofs.Asking.{not_moved}
-use Rattle.elan_run.proofs.Leaving.{some_told, sent_of, usage_reported, usage_undone}
+use Rattle.elan_run.proofs.Leaving.{chosen_untouched, usage_leaves}
 use Rattle.elan_run.proofs.run.ran.Goals as goal
 
-pub returns-else-is_empty-clause-moved : goal.returns-else-is_empty-clause-moved
-returns-else-is_empty-clause-moved g c = not_moved _
+pub returns-in-Ok-Some-clause-untouched : goal.returns-in-Ok-Some-clause-untouched
+returns-in-Ok-Some-clause-untouched g c =
+    let is : chosen_by (texts c.args.words.now) ≡ Some c.in-Ok-Some.options =
+    sym c.in-Ok-Some.ensures.value ∙ c.in-Ok-Some.field-0-is in
+    chosen_untouched _ _ is _ c.ran_with.ensures.untouched
 
-pub returns-else-is_empty-clause-leaves : goal.returns-else-is_empty-clause-leaves
-returns-else-is_empty-clause-leaves g c =
-    let some : 0 < length c.args.words.now = grind (arith, c.if-is_empty.ensures) in
-    let left = some_told (g.S.Source.left c.args.source.now) in
-    sent_of _ _ _ _ _ (returns-else-is_empty-clause-moved g c) _ _ _ _ left.1 (usage_reported _ _ left.0 some) (usage_undone _) c.send.ensures.sends
+pub returns-in-Ok-None-clause-moved : goal.returns-in-Ok-None-clause-moved
+returns-in-Ok-None-clause-moved g c = not_moved _
+
+pub returns-in-Ok-None-clause-leaves : goal.returns-in-Ok-None-clause-leaves
+returns-in-Ok-None-clause-leaves g c =
+    let none : chosen_by (texts c.args.words.now) ≡ None =
+    sym c.in-Ok-None.ensures.value ∙ c.in-Ok-None.field-0-is in
+    usage_leaves _ _ _ _ _ (returns-in-Ok-None-clause-moved g c) _ none c.send.ensures.sends
+
+pub returns-in-Err-clause-moved : goal.returns-in-Err-clause-moved
+returns-in-Err-clause-moved g c = not_moved _

@@ -1,0 +1,115 @@
+//! Runs whose sources, sinks and loaders fail.
+
+use crate::programs::{LIST, LIST_WITH_ANOTHER_SPELLING, NUMS};
+use crate::rows::{BOTH, Row, TWO_OF_A_LIST, input, lists, outcome_with};
+use elan_loaders::{Loader, MemoryLoader};
+use elan_run::{Status, run_plain};
+use elan_text::{Code, MemorySink, MemorySource};
+use std::alloc::Global;
+use std::collections::BTreeMap;
+use std::test::Fail;
+
+/// Two equal results of one query, in 45 bytes.
+const TWICE: Row<'static> = (
+    NUMS,
+    b"nums",
+    b"int",
+    b"dk(r1,r2)",
+    b"0",
+    b"[1] result term: 1\n[2] result term: 1\n[] end\n",
+);
+
+#[test]
+fn a_sink_that_fails_has_a_prefix_of_the_report(rt: HostRuntime) -> Result<(), Fail> {
+    let alloc = rt.alloc();
+    let stream = input(alloc, &TWICE)?;
+    assert_eq!(rt; TWICE.5.len(), 45);
+    for call in 1..8u64 {
+        let mut none: Vec<Box<dyn Loader>> = Vec::new(alloc);
+        let mut source = MemorySource::new(stream.as_slice().to_vec(alloc)?, 100, Vec::new(alloc));
+        let mut sink = MemorySink::new(alloc, 8, [call].to_vec(alloc)?);
+        let status = run_plain(alloc, &[], &mut source, &mut none, &mut sink);
+        // Six writes are enough.
+        let (answer, count) = if call < 7 {
+            (Status::WriteFault, 8 * (call as usize - 1))
+        } else {
+            (Status::Done, 45)
+        };
+        assert_eq!(rt; status, answer);
+        assert_eq!(rt; sink.written(), &TWICE.5[..count]);
+    }
+    Ok(())
+}
+
+#[test]
+fn a_source_that_fails_writes_nothing(rt: HostRuntime) -> Result<(), Fail> {
+    let alloc = rt.alloc();
+    let stream = input(alloc, &BOTH)?;
+    // The last of these reads is the one that answers that nothing is left.
+    let reads = stream.len().div_ceil(16) as u64 + 1;
+    for call in 1..reads + 2 {
+        let mut none: Vec<Box<dyn Loader>> = Vec::new(alloc);
+        let bytes = stream.as_slice().to_vec(alloc)?;
+        let mut source = MemorySource::new(bytes, 16, [call].to_vec(alloc)?);
+        let mut sink = MemorySink::new(alloc, 100, Vec::new(alloc));
+        let status = run_plain(alloc, &[], &mut source, &mut none, &mut sink);
+        if call <= reads {
+            assert_eq!(rt; status, Status::ReadFault);
+            assert_eq!(rt; sink.written().len(), 0);
+        } else {
+            assert_eq!(rt; status, Status::Done);
+        }
+    }
+    Ok(())
+}
+
+/// A loader that has no text of a name.
+fn no_lists(alloc: Global) -> MemoryLoader {
+    MemoryLoader::new(alloc, BTreeMap::new(alloc), Vec::new(alloc))
+}
+
+#[test]
+fn a_loader_that_fails_writes_nothing(rt: HostRuntime) -> Result<(), Fail> {
+    let alloc = rt.alloc();
+    let stream = input(alloc, &TWO_OF_A_LIST)?;
+    let mut loaders: Vec<Box<dyn Loader>> = Vec::new(alloc);
+    loaders.push(Box::new(alloc, lists(alloc, LIST, [1].to_vec(alloc)?)?)?)?;
+    let other = lists(alloc, LIST_WITH_ANOTHER_SPELLING, Vec::new(alloc))?;
+    loaders.push(Box::new(alloc, other)?)?;
+    let (status, written) = outcome_with(alloc, stream.as_slice(), &mut loaders)?;
+    assert_eq!(rt; written.len(), 0);
+    assert_eq!(rt; status, Status::LoaderFault);
+    Ok(())
+}
+
+#[test]
+fn a_loader_that_is_not_asked_does_not_fail(rt: HostRuntime) -> Result<(), Fail> {
+    let alloc = rt.alloc();
+    let stream = input(alloc, &TWO_OF_A_LIST)?;
+    let mut loaders: Vec<Box<dyn Loader>> = Vec::new(alloc);
+    let other = lists(alloc, LIST_WITH_ANOTHER_SPELLING, Vec::new(alloc))?;
+    loaders.push(Box::new(alloc, other)?)?;
+    loaders.push(Box::new(alloc, lists(alloc, LIST, [1].to_vec(alloc)?)?)?)?;
+    let (status, written) = outcome_with(alloc, stream.as_slice(), &mut loaders)?;
+    assert_eq!(rt;
+        written.as_slice(),
+        b"error E15 10:1 no reading\n".as_slice()
+    );
+    assert_eq!(rt; status, Status::Refused(Code::E15));
+    Ok(())
+}
+
+#[test]
+fn a_loader_that_fails_behind_one_without_the_text_writes_nothing(
+    rt: HostRuntime,
+) -> Result<(), Fail> {
+    let alloc = rt.alloc();
+    let stream = input(alloc, &TWO_OF_A_LIST)?;
+    let mut loaders: Vec<Box<dyn Loader>> = Vec::new(alloc);
+    loaders.push(Box::new(alloc, no_lists(alloc))?)?;
+    loaders.push(Box::new(alloc, lists(alloc, LIST, [1].to_vec(alloc)?)?)?)?;
+    let (status, written) = outcome_with(alloc, stream.as_slice(), &mut loaders)?;
+    assert_eq!(rt; written.len(), 0);
+    assert_eq!(rt; status, Status::LoaderFault);
+    Ok(())
+}

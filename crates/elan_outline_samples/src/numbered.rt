@@ -1,7 +1,10 @@
 //! An outline with each of its parts, whose tokens were numbered by hand.
 
 use elan_lexer::tokens;
-use elan_syntax::{Attributes, ClauseOutline, Section, Side, Span, module_outline, outline};
+use elan_phrases::is_unreserved;
+use elan_syntax::{
+    Attributes, ClauseOutline, ModuleOutline, Section, Side, Span, module_outline, outline,
+};
 use elan_text::Name;
 use std::alloc::Global;
 use std::test::Fail;
@@ -132,19 +135,28 @@ fn attributes_say_the_same_in_each_order(rt: HostRuntime) -> Result<(), Fail> {
     Ok(())
 }
 
+/// The outline of a text that is one module of a name.
+fn module_of(alloc: Global, bytes: &[u8], name: &Name) -> Result<ModuleOutline, Fail> {
+    if bytes.len() > 4_194_304 || !is_unreserved(name.as_bytes()) {
+        return Err("the text is short, and the name a name".into());
+    }
+    let Ok(found) = tokens(alloc, bytes) else {
+        return Err("there are tokens".into());
+    };
+    match module_outline(alloc, bytes, found.as_slice(), name) {
+        Ok(outline) => Ok(outline),
+        Err(_) => Err("there is an outline".into()),
+    }
+}
+
 /// The attributes of the one operator of a module that declares it with these.
 fn declared(alloc: Global, written: &[u8]) -> Result<Attributes, Fail> {
     let mut text = Vec::new(alloc);
     text.extend_from_slice(b"module m operators @ . @ : (s s) s ")?;
     text.extend_from_slice(written)?;
     text.extend_from_slice(b"; end end")?;
-    let found = tokens(alloc, text.as_slice())
-        .ok()
-        .ok_or("there are tokens")?;
     let name = Name::new(alloc, b"m")?;
-    let outline = module_outline(alloc, text.as_slice(), found.as_slice(), &name)
-        .ok()
-        .ok_or("there is an outline")?;
+    let outline = module_of(alloc, text.as_slice(), &name)?;
     let [Section::Operators(all)] = outline.sections.as_slice() else {
         return Err("there is one section".into());
     };

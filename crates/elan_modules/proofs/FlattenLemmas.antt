@@ -1,13 +1,11 @@
 -- Which libraries a walk asks.
-use Rattle.std.proofs.Common.{◌≡◌, ◌≢◌, ◌⊎◌, inl, inr, ℕ, zero, suc, ◌+◌, Bool, true, false, cond, nat_le, nat_lt, List, [], ◌∷◌, ◌++◌, length, Option, Some, None, Result, Ok, Err, refl, ap, ◌∙◌, subst}
-use Rattle.std.specs.Prelude.{◌==◌}
+use Rattle.std.proofs.Common.{◌≡◌, ◌≢◌, ◌⊎◌, inl, inr, ℕ, zero, suc, ◌+◌, Bool, true, false, cond, nat_le, List, [], ◌∷◌, ◌++◌, length, Option, Some, None, Result, Ok, Err, refl, ap, ◌∙◌, subst}
 use Rattle.std.specs.List.{list_any}
-use Rattle.elan_text.specs.declared.refusal.Code.TheVariants.{E05, E06, E07, E08, E14}
+use Rattle.elan_text.specs.declared.refusal.Code.TheVariants.{E05, E06, E08, E14}
 use Rattle.elan_text.specs.declared.name.Name.{Name}
 use Rattle.elan_text.specs.declared.refusal.Place.{Place}
 use Rattle.elan_lexer.specs.declared.token.Token.{Token}
 use Rattle.elan_syntax.specs.declared.parts.Outline.{Outline}
-use Rattle.elan_syntax.specs.declared.parts.ModuleOutline.{ModuleOutline}
 use Rattle.elan_modules.specs.declared.flat.LoadedText.{LoadedText}
 use Rattle.elan_modules.specs.declared.flat.Flat.{Flat}
 use Rattle.elan_modules.specs.declared.flat.FlattenRefusal.{FlattenRefusal}
@@ -16,49 +14,20 @@ use Rattle.elan_modules.specs.Walking.{Walk}
 use Rattle.elan_modules.specs.declared.walk.Reference.{Reference}
 use Rattle.elan_modules.specs.declared.flat.Standard.{Standard}
 use Rattle.elan_loaders.specs.Libraries.{Library as Texts, Told, Has, HasNone, Untold, found_or, first_told}
-use Rattle.elan_modules.specs.Modules.{Found, Opened, find, is_name, opened, standard_of, first_long, parameters_of, sort_spans, imports_of, references_of, parameter_count, standard_imports}
-use Rattle.elan_modules.specs.Visits.{Library, Halted, Refuses, Silent, Visiting, next, with_text, fetched, located_or, located, begun_text, begun_or, begun, measured, text_imports, built_imports, completed, finished, is_named_by, is_instance, most_instances, most_bytes, total, refused_at, too_long, visit_all, visit_step, visit, named_once, named_twice, start, walked, stream_of, flat_program, flat_of, is_unknown, nobody, needs_loaders}
-use Rattle.elan_modules.specs.Walks.{Shelf, nothing, Comes, Untouched, is_fault, is_silent, Walks}
+use Rattle.elan_modules.specs.Modules.{Found, find, is_name, standard_of, references_of}
+use Rattle.elan_modules.specs.Visits.{Library, Halted, Refuses, Silent, Visiting, next, fetched, located_or, located, begun_text, begun_or, begun, completed, finished, is_named_by, is_instance, most_instances, refused_at, visit_all, visit_step, visit, named_once, named_twice, start, walked, stream_of, flat_program, flat_of, is_unknown, nobody, needs_loaders}
+use Rattle.elan_modules.specs.Walks.{Stock, nothing, IsAnswer, Stops, Comes, Untouched, is_fault, is_silent, Walks}
 use Rattle.elan_modules.specs.Loads.{itself}
-use Rattle.elan_modules.specs.Flattens.{AllTold, Gives}
+use Rattle.elan_modules.specs.Flattens.{AllTold, Gives, StopsAt}
+use Rattle.elan_modules.proofs.AnswerLemmas.{extends_same}
+use Rattle.elan_modules.proofs.HeardLemmas.{Heard, heard_next, heard_cond, heard_loaded, heard_begun_text, heard_standard}
 use Rattle.elan_modules.proofs.WalkLemmas.{nothing_sound}
 
 -- ---- a walk that never comes to a name of which nothing is told
 
-abbrev Heard : {A : Type 0} → Result A Halted → Type 0
-Heard x = is_silent x ≡ false
-
-heard_next : {A B : Type 0} (x : Result A Halted) (more : A → Result B Halted) → Heard x → ((a : A) → Heard (more a)) → Heard (next x more)
-heard_next (Ok a) more here then_ = then_ a
-heard_next (Err (Refuses r)) more here then_ = refl
-heard_next (Err Silent) more here then_ = absurd cc
-
-heard_cond : {A : Type 0} (b : Bool) (x y : Result A Halted) → Heard x → Heard y → Heard (cond b x y)
-heard_cond true x y here there = here
-heard_cond false x y here there = there
-
-heard_text : (walk : Walk) (read : Opened) → Heard (with_text walk read)
-heard_text walk (Ok read) = refl
-heard_text walk (Err r) = refl
-
-heard_imports : (r : Reference) (text : LoadedText) (outline : ModuleOutline) → Heard (text_imports r text outline)
-unfolding text_imports
-heard_imports r text outline = heard_cond (length r.args == length (parameters_of text outline.parameters))
-    (measured text (first_long text (parameters_of text outline.parameters) r.args (sort_spans text outline.sections))
-    (imports_of text (parameters_of text outline.parameters) r.args outline.sections)) (refused_at E07 r)
-    (go (first_long text (parameters_of text outline.parameters) r.args (sort_spans text outline.sections))) refl
-  where
-    go : (at : Option Place) → Heard (measured text at (imports_of text (parameters_of text outline.parameters) r.args outline.sections))
-    go (Some at) = refl
-    go None = refl
-
-heard_begun_text : (r : Reference) (at : Walk × Found) → Heard (begun_text r at)
-heard_begun_text r at = heard_next (text_imports r at.1.text at.1.outline) _ (heard_imports r at.1.text at.1.outline) (λ imports. refl)
-
 module _ (library : Library) (tells : (name : List ℕ) → library name ≢ Untold) where
   heard_fetched : (walk : Walk) (r : Reference) (told : Told) → told ≢ Untold → Heard (fetched walk r told)
-  heard_fetched walk r (Has bytes) some = heard_cond (nat_lt most_bytes (total walk.texts + length bytes))
-      (Err (Refuses (too_long r.name))) (with_text walk (opened r.name bytes)) refl (heard_text walk (opened r.name bytes))
+  heard_fetched walk r (Has bytes) some = heard_loaded walk r.name bytes
   heard_fetched walk r HasNone some = refl
   heard_fetched walk r Untold some = absurd (some refl)
 
@@ -75,7 +44,7 @@ module _ (library : Library) (tells : (name : List ℕ) → library name ≢ Unt
   heard_begun walk r = go (standard_of r.name.bytes)
     where
       go : (standard : Option Standard) → Heard (begun_or library walk r standard)
-      go (Some standard) = heard_next (built_imports r standard) _ (heard_cond (length r.args == parameter_count standard) (Ok (standard_imports standard r)) (refused_at E07 r) refl refl) (λ imports. refl)
+      go (Some standard) = heard_standard walk r standard
       go None = heard_next (located library walk r) (begun_text r) (heard_located walk r) (heard_begun_text r)
 
   heard_all : (visiting : Visiting) → ((path : List Name) (walk : Walk) (r : Reference) → Heard (visiting path walk r))
@@ -208,6 +177,14 @@ alike_program bytes tokens outline = alike_next (walked nothing (stream_of bytes
 
 -- ---- what follows for the whole call
 
+stops_at : (d : Library → Result Flat Halted) (texts : List LoadedText) (said : Library)
+    (result : Result Flat FlattenRefusal)
+    → Stops itself d texts said result → StopsAt result (d said)
+stops_at d texts said (Ok flat) is = is.0 said (extends_same said)
+stops_at d texts said (Err (Refused r)) is = is said (extends_same said)
+stops_at d texts said (Err LoaderFault) is = is
+stops_at d texts said (Err NoMemory) is = tt
+
 tells_found : (x : Option (List ℕ)) (others : Told) → others ≢ Untold → found_or x others ≢ Untold
 tells_found (Some text) others tells e = absurd cc
 tells_found None others tells e = tells e
@@ -228,12 +205,24 @@ gives_heard (Err (Refused r)) (Err Silent) heard is = absurd cc
 gives_heard (Err LoaderFault) d heard is = tt
 gives_heard (Err NoMemory) d heard is = tt
 
-module _ (bytes : List ℕ) (tokens : List Token) (outline : Outline) (s t : Shelf) (result : Result Flat FlattenRefusal)
+module _ (bytes : List ℕ) (tokens : List Token) (outline : Outline) (s t : Stock) (result : Result Flat FlattenRefusal)
     (is : Walks (λ library. flat_program library bytes tokens outline) s t itself result) where
+  -- for what the loaders answered
+  pub stops_answered : (said : Library) × IsAnswer s.loaders.told said × StopsAt result
+      (flat_program said bytes tokens outline)
+  stops_answered =
+      let one = is.answered nothing (λ name. tt) (λ name none. refl) in (
+        one.said,
+        one.is_answer,
+        stops_at
+            (λ library. flat_program library bytes tokens outline) t.texts one.said result one.stops,
+      )
+
   -- where each loader tells its library
-  pub gives_told : AllTold s.told → Gives result (flat_program (first_told s.told) bytes tokens outline)
-  gives_told all = gives_heard result _ (heard_program (first_told s.told) (tells_each s.told all) bytes tokens outline)
-      (is.comes (first_told s.told) (λ name. inr refl))
+  pub gives_told : AllTold s.loaders.told → Gives result (flat_program (first_told s.loaders.told) bytes tokens outline)
+  gives_told all = gives_heard result _
+      (heard_program (first_told s.loaders.told) (tells_each s.loaders.told all) bytes tokens outline)
+      (is.comes (first_told s.loaders.told) (λ name. inr refl))
 
   same_alone : needs_loaders bytes tokens outline ≡ false
       → flat_program nothing bytes tokens outline ≡ flat_program nobody bytes tokens outline
@@ -256,9 +245,9 @@ module _ (bytes : List ℕ) (tokens : List Token) (outline : Outline) (s t : She
   -- where the stream needs no loaders
   pub gives_alone : needs_loaders bytes tokens outline ≡ false → Gives result (flat_program nobody bytes tokens outline)
   gives_alone none = gives_heard result _ heard_nobody
-      (subst (λ d. Comes itself result d) (same_alone none) (is.comes nothing (nothing_sound s)))
+      (subst (λ d. Comes itself result d) (same_alone none) (is.comes nothing (nothing_sound s.loaders)))
 
-  pub untouched_alone : needs_loaders bytes tokens outline ≡ false → Untouched s t
+  pub untouched_alone : needs_loaders bytes tokens outline ≡ false → Untouched s.loaders t.loaders
   untouched_alone none = (is.alone (heard_nothing none)).0
 
   -- a loader fails only where the stream needs loaders

@@ -1,12 +1,15 @@
+pub mod AnswerLemmas
 pub mod BeginLemmas
 pub mod Computed
 pub mod EntryLemmas
 pub mod FindLemmas
 pub mod FlatLemmas
 pub mod FlattenLemmas
+pub mod HeardLemmas
 pub mod LoadLemmas
 pub mod NamedLemmas
 pub mod OpenedLemmas
+pub mod OrderLemmas
 pub mod ReadingLemmas
 pub mod ReplacingLemmas
 pub mod Rows

@@ -1,6 +1,6 @@
 -- Texts that are loaded.
-use Rattle.std.proofs.Common.{◌≡◌, ◌<◌, ◌⊎◌, inl, inr, ℕ, zero, suc, ◌+◌, nat_le, Bool, true, false, List, [], ◌∷◌, ◌++◌, length, nat_lt, Result, Ok, Err, refl, sym, ap, ◌∙◌, subst, arith}
-use Rattle.std.specs.Prelude.{◌&&◌, ◌||◌, ◌==◌}
+use Rattle.std.proofs.Common.{◌≡◌, ◌≢◌, ◌<◌, ◌⊎◌, inl, inr, ℕ, zero, suc, ◌+◌, nat_le, Bool, true, false, List, [], ◌∷◌, ◌++◌, length, nat_lt, None, Result, Ok, Err, refl, sym, ap, ◌∙◌, subst, arith}
+use Rattle.std.specs.Prelude.{◌&&◌, ◌||◌, ◌==◌, IfOk}
 use Rattle.std.specs.List.{list_all}
 use Rattle.std.specs.Str.{IsAscii, IsUtf8}
 use Rattle.std.proofs.lemmas.Str.{IsUtf8-from_ascii}
@@ -27,12 +27,14 @@ use Rattle.elan_modules.specs.declared.flat.FlattenRefusal.TheVariants.{Refused,
 use Rattle.elan_loaders.specs.declared.loader.Fetched.TheVariants as fetch
 use Rattle.elan_modules.specs.Walking.{Walk}
 use Rattle.elan_modules.specs.declared.walk.Reference.{Reference}
-use Rattle.elan_loaders.specs.Libraries.{Told, Has, HasNone, Untold, first_told, AnswersAll, NoneHas, EachRose, SomeRose}
-use Rattle.elan_modules.specs.Modules.{Found, Opened, outlined, cut, opened, is_name, is_word_byte}
+use Rattle.elan_loaders.specs.Libraries.{Told, Has, HasNone, Untold, Shows, first_told, AnswersAll, NoneHas, EachRose, SomeRose}
+use Rattle.elan_modules.specs.Modules.{Found, find, Opened, outlined, cut, opened, is_name, is_word_byte}
 use Rattle.elan_modules.specs.Openings.{Opens}
 use Rattle.elan_modules.specs.Visits.{is_e06, Library, Halted, Refuses, Silent, most_bytes, total, with_text, loaded, fetched, refusal_at}
-use Rattle.elan_modules.specs.Walks.{Shelf, IsSound, Comes, Moved, is_fault, is_absent, Lacks, Walks, Is, Stays}
-use Rattle.elan_modules.specs.Loads.{only_outline, walk_with}
+use Rattle.elan_modules.specs.Walks.{Stock, IsSound, CanAnswer, IsAnswer, Extends, IsOf, Answered, Comes, Moved, is_fault, is_absent, is_silent, Lacks, Walks, Is, Stays}
+use Rattle.elan_modules.specs.Loads.{only_outline, HasOne, IsOwn, texts_with, walk_with}
+use Rattle.elan_modules.proofs.AnswerLemmas.{extends_same, said_still, stops_under, stops_still, answered_hungry, with_answer, answer_is, answer_extends, answer_can, answer_of}
+use Rattle.elan_modules.proofs.HeardLemmas.{heard_loaded}
 
 -- ---- names
 
@@ -151,26 +153,57 @@ is_no_fault V r (Refused s) is = refl
 is_no_fault V r LoaderFault is = absurd is
 is_no_fault V r NoMemory is = refl
 
-module _ (walk : Walk) (r : Reference) (s t : Shelf) (view : LoadedText → Walk × Found) (moved : Moved s t) where
+module _ (walk : Walk) (r : Reference) (s t : Stock) (view : LoadedText → Walk × Found)
+    (moved : Moved s.loaders t.loaders) where
   -- what is asked is the name of the reference
   abbrev Asked : Library → Result (Walk × Found) Halted
   Asked library = fetched walk r (library r.name.bytes)
 
   -- what is told is either nothing or what the loaders tell
-  asked_by : (result : Result LoadedText FlattenRefusal) → Comes view result (fetched walk r (first_told s.told r.name.bytes))
-      → (library : Library) → IsSound library s.told → Comes view result (Asked library)
+  asked_by : (result : Result LoadedText FlattenRefusal)
+      → Comes view result (fetched walk r (first_told s.loaders.told r.name.bytes))
+      → (library : Library) → IsSound library s.loaders.told → Comes view result (Asked library)
   asked_by result comes library sound = go (library r.name.bytes) (sound r.name.bytes)
     where
-      go : (x : Told) → (x ≡ Untold) ⊎ (x ≡ first_told s.told r.name.bytes) → Comes view result (fetched walk r x)
+      go : (x : Told) → (x ≡ Untold) ⊎ (x ≡ first_told s.loaders.told r.name.bytes)
+          → Comes view result (fetched walk r x)
       go x (inl none) = rw none (comes_silent view result)
       go x (inr same) = rw same comes
 
-  walks_asked : (result : Result LoadedText FlattenRefusal) → Comes view result (fetched walk r (first_told s.told r.name.bytes))
-      → (is_fault result ≡ true → SomeRose s.failures t.failures)
-      → (is_absent result ≡ true → EachRose s.misses t.misses × Lacks s.told result)
+  -- what was answered of a name of which nothing was said before
+  module _ (new : find 0 s.texts r.name.bytes ≡ None) (said : Library) (can : IsAnswer s.loaders.told said)
+      (of : IsOf s.texts said)
+      (answer : Told) (some : answer ≢ Untold) (here : CanAnswer s.loaders.told r.name.bytes answer) where
+    abbrev heard_with : Library
+    heard_with = with_answer said r.name.bytes answer
+
+    asked_is : (more : Library) → Extends heard_with more → fetched walk r (more r.name.bytes) ≡ fetched walk r answer
+    asked_is more far = ap (λ z. fetched walk r z)
+        (said_still heard_with more r.name.bytes answer (answer_is said r.name.bytes answer) some far)
+
+    answered_by : (texts : List LoadedText) (result : Result LoadedText FlattenRefusal)
+        → is_silent (fetched walk r answer) ≡ false
+        → Comes view result (fetched walk r answer) → is_fault result ≡ false
+        → ((text : LoadedText) → result ≡ Ok text → IsOf texts heard_with)
+        → Answered Asked s.loaders.told said texts view result
+    answered_by texts result heard comes fault last = record {
+      said = heard_with;
+      is_answer = answer_can s.loaders.told said r.name.bytes answer can here;
+      extends = answer_extends said r.name.bytes answer (of r.name.bytes new);
+      stops = stops_under (λ _. fetched walk r answer) Asked texts heard_with view result asked_is
+          (stops_still (fetched walk r answer) texts heard_with view result heard comes fault last);
+    }
+
+  walks_asked : (result : Result LoadedText FlattenRefusal)
+      → Comes view result (fetched walk r (first_told s.loaders.told r.name.bytes))
+      → (is_fault result ≡ true → SomeRose s.loaders.failures t.loaders.failures)
+      → (is_absent result ≡ true → EachRose s.loaders.misses t.loaders.misses × Lacks s.loaders.told result)
+      → ((said : Library) → IsAnswer s.loaders.told said → IsOf s.texts said
+      → Answered Asked s.loaders.told said t.texts view result)
       → Walks Asked s t view result
-  walks_asked result comes fault absent = record {
+  walks_asked result comes fault absent answered = record {
     comes = asked_by result comes;
+    answered = answered;
     moved = moved;
     fault = fault;
     absent = absent;
@@ -178,11 +211,30 @@ module _ (walk : Walk) (r : Reference) (s t : Shelf) (view : LoadedText → Walk
   }
 
   pub walks_found : (bytes : List ℕ) (result : Result LoadedText FlattenRefusal)
-      → AnswersAll (first_told s.told r.name.bytes) fetch.Found [] bytes → Stays view result (loaded walk r.name bytes)
+      → find 0 s.texts r.name.bytes ≡ None → t.texts ≡ texts_with s.texts result
+      → IfOk result (λ text. HasOne text.modules) → IfOk result (λ text. IsOwn r.name text)
+      → AnswersAll (first_told s.loaders.told r.name.bytes) fetch.Found [] bytes
+      → Stays view result (loaded walk r.name bytes)
       → Walks Asked s t view result
-  walks_found bytes result answers stays = walks_asked result (go (first_told s.told r.name.bytes) answers)
+  walks_found bytes result new texts one own answers stays =
+      walks_asked result (go (first_told s.loaders.told r.name.bytes) answers)
       (λ is. absurd (not_both (is_fault result) is stays.fault)) (λ is. absurd (not_both (is_absent result) is stays.absent))
+      (λ said can of. answered_by new said can of (Has bytes) (λ e. absurd cc)
+      (shown (first_told s.loaders.told r.name.bytes) answers)
+      t.texts result (heard_loaded walk r.name bytes) stays.comes stays.fault
+      (λ text is. last said of text (texts ∙ ap (texts_with s.texts) is)
+      (subst (λ z. IfOk z (λ (text : LoadedText). HasOne text.modules)) is one)
+      (subst (λ z. IfOk z (IsOwn r.name)) is own)))
     where
+      shown : (x : Told) → AnswersAll x fetch.Found [] bytes → Shows x bytes
+      shown x is = subst (λ z. Shows x z) (sym is.1) is.2
+
+      last : (said : Library) → IsOf s.texts said → (text : LoadedText) → t.texts ≡ s.texts ++ text ∷ []
+          → HasOne text.modules
+          → IsOwn r.name text → IsOf t.texts (with_answer said r.name.bytes (Has bytes))
+      last said of text at one own = subst (λ z. IsOf z (with_answer said r.name.bytes (Has bytes))) (sym at)
+          (answer_of said s.texts text (only_outline text.modules) r.name.bytes (Has bytes) of one own.named)
+
       not_both : (b : Bool) → b ≡ true → b ≡ false → ⊥
       not_both b t f = cc
 
@@ -191,16 +243,23 @@ module _ (walk : Walk) (r : Reference) (s t : Shelf) (view : LoadedText → Walk
       go HasNone is = absurd is.2
       go Untold is = comes_silent view result
 
-  pub walks_absent : (bytes : List ℕ) (why : FlattenRefusal)
-      → AnswersAll (first_told s.told r.name.bytes) fetch.Absent [] bytes → EachRose s.misses t.misses
-      → NoneHas s.told r.name.bytes → Is (refusal_at E06 r) why → Walks Asked s t view (Err why)
-  walks_absent bytes why answers rose none is = walks_asked (Err why) (go (first_told s.told r.name.bytes) answers)
+  pub walks_absent : (bytes : List ℕ) (why : FlattenRefusal) → find 0 s.texts r.name.bytes ≡ None
+      → AnswersAll (first_told s.loaders.told r.name.bytes) fetch.Absent [] bytes
+      → EachRose s.loaders.misses t.loaders.misses
+      → NoneHas s.loaders.told r.name.bytes → Is (refusal_at E06 r) why → Walks Asked s t view (Err why)
+  walks_absent bytes why new answers rose none is =
+      walks_asked (Err why) (go (first_told s.loaders.told r.name.bytes) answers)
       (λ fault. absurd (not_both _ fault (is_no_fault LoadedText (refusal_at E06 r) why is))) (λ absent. (rose, lacks why is absent))
+      (λ said can of. answered_by new said can of HasNone (λ e. absurd cc) (answers.1, none) t.texts (Err why) refl
+      (is_comes view (refusal_at E06 r) why is) (is_no_fault LoadedText (refusal_at E06 r) why is)
+      (λ text e. absurd cc))
     where
       not_both : (b : Bool) → b ≡ true → b ≡ false → ⊥
       not_both b t f = cc
 
-      lacks : (why : FlattenRefusal) → Is (refusal_at E06 r) why → is_absent (let x : Result LoadedText FlattenRefusal = Err why in x) ≡ true → Lacks s.told (let x : Result LoadedText FlattenRefusal = Err why in x)
+      lacks : (why : FlattenRefusal) → Is (refusal_at E06 r) why
+          → is_absent (let x : Result LoadedText FlattenRefusal = Err why in x) ≡ true
+          → Lacks s.loaders.told (let x : Result LoadedText FlattenRefusal = Err why in x)
       lacks (Refused other) is absent = (r, is, none)
       lacks LoaderFault is absent = absurd is
       lacks NoMemory is absent = absurd cc
@@ -210,8 +269,16 @@ module _ (walk : Walk) (r : Reference) (s t : Shelf) (view : LoadedText → Walk
       go HasNone answer = is_comes view (refusal_at E06 r) why is
       go Untold answer = comes_silent view (Err why)
 
-  pub walks_failed : SomeRose s.failures t.failures → Walks Asked s t view (Err LoaderFault)
-  walks_failed rose = walks_asked (Err LoaderFault) tt (λ _. rose) (λ is. absurd cc)
+  pub walks_failed : find 0 s.texts r.name.bytes ≡ None → SomeRose s.loaders.failures t.loaders.failures
+      → Walks Asked s t view (Err LoaderFault)
+  walks_failed new rose = walks_asked (Err LoaderFault) tt (λ _. rose) (λ is. absurd cc)
+      (λ said can of. record {
+        said = said;
+        is_answer = can;
+        extends = extends_same said;
+        stops = ap (λ z. fetched walk r z) (of r.name.bytes new);
+      })
 
   pub walks_hungry : Walks Asked s t view (Err NoMemory)
   walks_hungry = walks_asked (Err NoMemory) tt (λ is. absurd cc) (λ is. absurd cc)
+      (λ said can of. answered_hungry Asked s.loaders.told said t.texts view can)

@@ -1,15 +1,15 @@
 -- A module that was looked for has the name.
-use Rattle.std.proofs.Common.{◌≡◌, ℕ, ◌+◌, ◌&&◌, arith, cond, Bool, true, false, List, [], ◌∷◌, ◌++◌, map, length, slice_get, Option, Some, None, Result, Ok, Err, refl, sym, ap, ◌∙◌, subst}
+use Rattle.std.proofs.Common.{◌≡◌, ℕ, ◌+◌, ◌&&◌, arith, cond, Bool, true, false, List, [], ◌∷◌, ◌++◌, length, slice_get, Option, Some, None, Result, Ok, Err, refl, sym, ap, ◌∙◌, subst}
 use Rattle.std.specs.Prelude.{IfOk}
 use Rattle.std.specs.List.{All}
 use Rattle.std.specs.Str.{bytes_eq}
 use Rattle.std.proofs.lemmas.Slice.Eq.{bytes_eq-Decides}
 use Rattle.elan_text.specs.declared.name.Name.{Name}
 use Rattle.elan_lexer.specs.declared.token.Token.{Token}
-use Rattle.elan_lexer.specs.Text.{Fits, IsInside, token_text}
+use Rattle.elan_lexer.specs.Text.{Fits, IsInside}
 use Rattle.elan_forms.specs.Form.{whole}
 use Rattle.elan_forms.proofs.Steps.{head_is, tail_is}
-use Rattle.elan_phrases.specs.Symbols.{Seen, seen, the_name, names, symbol_of}
+use Rattle.elan_phrases.specs.Symbols.{Seen, seen, the_name, names}
 use Rattle.elan_syntax.specs.declared.parts.ModuleOutline.{ModuleOutline}
 use Rattle.elan_syntax.specs.Grammar.{module_of, module_behind}
 use Rattle.elan_syntax.specs.Outlines.{IsModuleOutline}
@@ -21,7 +21,7 @@ use Rattle.elan_modules.specs.declared.walk.Spot.{Spot}
 use Rattle.elan_modules.specs.Sorts.{word_of}
 use Rattle.elan_modules.specs.Modules.{Found, find_in, find, found_first, name_of, loaded_text}
 use Rattle.elan_modules.specs.Finds.{Finds}
-use Rattle.elan_modules.specs.Fitting.{IsFitting, IsModuleAt, IsOriginOf}
+use Rattle.elan_modules.specs.Fitting.{IsModuleAt, IsOriginOf}
 use Rattle.elan_modules.specs.Loads.{HasOne, IsOwn, only_outline}
 use Rattle.elan_modules.proofs.FlatLemmas.{get_last}
 

@@ -12,7 +12,7 @@ use Rattle.elan_modules.specs.Walking.{Walk}
 use Rattle.elan_modules.specs.declared.walk.Reference.{Reference}
 use Rattle.elan_modules.specs.declared.walk.Opening.{Opening}
 use Rattle.elan_modules.specs.Visits.{Library, Visiting, next, begun, completed, finished, is_named_by, is_instance, most_instances, refusal_at, refused_at, visit_all, visit_step, visit}
-use Rattle.elan_modules.specs.Walks.{Shelf, Walks, Stays, Is}
+use Rattle.elan_modules.specs.Walks.{Stock, Walks, Stays, Is}
 use Rattle.elan_modules.specs.Loads.{begun_with, become}
 use Rattle.elan_modules.proofs.WalkLemmas.{walks_then, walks_ended}
 use Rattle.elan_modules.proofs.BeginLemmas.{stays_walks, stays_refused, stays_hungry, walks_same}
@@ -47,25 +47,28 @@ module _ (path : List Name) (walk : Walk) (r : Reference) where
   unfolding visit visit_step
   visit-begun n library off new room = rw (off, new, room) refl
 
-  module _ (n : ℕ) (s : Shelf) where
+  module _ (n : ℕ) (s : Stock) where
     pub visits_on : (why : FlattenRefusal) → list_any (is_named_by r) path ≡ true → Is (refusal_at E08 r) why
         → Walks (λ library. visit n library path walk r) s s (become walk) (Err why)
     visits_on why on is = walks_same (λ _. refused_at E08 r) _ s s (become walk) (Err why) (λ library. visit-on n library on)
-        (stays_walks (become walk) (Err why) (refused_at E08 r) s (stays_refused (become walk) (refusal_at E08 r) why refl is))
+        (stays_walks (become walk) (Err why) (refused_at E08 r) s refl
+        (stays_refused (become walk) (refusal_at E08 r) why refl is))
 
     pub visits_done : list_any (is_named_by r) path ≡ false → list_any (is_instance r) walk.done ≡ true
         → Walks (λ library. visit n library path walk r) s s (become walk) (Ok tt)
     visits_done off done = walks_same (λ _. Ok walk) _ s s (become walk) (Ok tt) (λ library. visit-done n library off done)
-        (stays_walks (become walk) (Ok tt) (Ok walk) s (record { comes = refl; fault = refl; absent = refl }))
+        (stays_walks (become walk) (Ok tt) (Ok walk) s refl (record { comes = refl; fault = refl; absent = refl }))
 
     pub visits_full : (why : FlattenRefusal) → list_any (is_named_by r) path ≡ false → list_any (is_instance r) walk.done ≡ false
         → nat_le most_instances (length path + length walk.done) ≡ true → Is (refusal_at E14 r) why
         → Walks (λ library. visit n library path walk r) s s (become walk) (Err why)
     visits_full why off new full is = walks_same (λ _. refused_at E14 r) _ s s (become walk) (Err why)
         (λ library. visit-full n library off new full)
-        (stays_walks (become walk) (Err why) (refused_at E14 r) s (stays_refused (become walk) (refusal_at E14 r) why refl is))
+        (stays_walks (become walk) (Err why) (refused_at E14 r) s refl
+        (stays_refused (become walk) (refusal_at E14 r) why refl is))
 
-  pub visits_begun : (n m : ℕ) (s t : Shelf) (view : Unit {0} → Walk) (result : Result (Unit {0}) FlattenRefusal) → n ≡ suc m
+  pub visits_begun : (n m : ℕ) (s t : Stock) (view : Unit {0} → Walk) (result : Result (Unit {0}) FlattenRefusal)
+      → n ≡ suc m
       → list_any (is_named_by r) path ≡ false → list_any (is_instance r) walk.done ≡ false
       → nat_le most_instances (length path + length walk.done) ≡ false
       → Walks (λ library. next (begun library walk r) (completed (visit m library) path r)) s t view result
@@ -80,7 +83,8 @@ pub err_is : {V : Type 0} (result : Result V FlattenRefusal) (why : FlattenRefus
 err_is (Ok v) why is = absurd is
 err_is (Err e) why is = ap (λ z. Err z) is
 
-module _ (walk w : Walk) (r : Reference) (path longer : List Name) (references : List Reference) (opening : Opening) (s m t : Shelf)
+module _ (walk w : Walk) (r : Reference) (path longer : List Name) (references : List Reference) (opening : Opening)
+    (s m t : Stock)
     (first : Walks (λ library. begun library walk r) s m (begun_with w) (Ok opening))
     (is_longer : longer ≡ path ++ r.name ∷ []) (are_imports : references ≡ opening.imports) where
   -- how the references of the module are visited
@@ -116,7 +120,7 @@ module _ (walk w : Walk) (r : Reference) (path longer : List Name) (references :
         → Walks (λ library. next (begun library walk r) (completed (Inner library) path r)) s t view result
     behind view result stays = whole (walks_then (λ library. visit_all (Inner library) (path ++ r.name ∷ []) w opening.imports)
         (λ library further. Ok (finished r opening.origin further)) (become done) view m t t tt result (inner walks)
-        (stays_walks view result (Ok (finished r opening.origin done)) t stays))
+        (stays_walks view result (Ok (finished r opening.origin done)) t refl stays))
 
     pub completes_finished : Walks (λ library. next (begun library walk r) (completed (Inner library) path r)) s t
         (become (finished r opening.origin done)) (Ok tt)
@@ -129,15 +133,15 @@ module _ (walk w : Walk) (r : Reference) (path longer : List Name) (references :
 -- ---- references one after the other
 
 -- no reference is left
-pub visits_none : (visiting : Library → Visiting) (path : List Name) (walk : Walk) (s : Shelf)
+pub visits_none : (visiting : Library → Visiting) (path : List Name) (walk : Walk) (s : Stock)
     → Walks (λ library. visit_all (visiting library) path walk []) s s (become walk) (Ok tt)
 unfolding visit_all
 visits_none visiting path walk s =
-    stays_walks (become walk) (Ok tt) (Ok walk) s (record { comes = refl; fault = refl; absent = refl })
+    stays_walks (become walk) (Ok tt) (Ok walk) s refl (record { comes = refl; fault = refl; absent = refl })
 
 -- one reference, and then the others
 pub visits_next : (visiting : Library → Visiting) (path : List Name) (walk further : Walk) (r : Reference) (rs : List Reference)
-    (s t u : Shelf) (view : Unit {0} → Walk) (result : Result (Unit {0}) FlattenRefusal)
+    (s t u : Stock) (view : Unit {0} → Walk) (result : Result (Unit {0}) FlattenRefusal)
     → Walks (λ library. visiting library path walk r) s t (become further) (Ok tt)
     → Walks (λ library. visit_all (visiting library) path further rs) t u view result
     → Walks (λ library. visit_all (visiting library) path walk (r ∷ rs)) s u view result
@@ -148,7 +152,7 @@ visits_next visiting path walk further r rs s t u view result one others =
 
 -- one reference, which ends the walk
 pub visits_ended : (visiting : Library → Visiting) (path : List Name) (walk : Walk) (r : Reference) (rs : List Reference)
-    (s t : Shelf) (view see : Unit {0} → Walk) (why : FlattenRefusal)
+    (s t : Stock) (view see : Unit {0} → Walk) (why : FlattenRefusal)
     → Walks (λ library. visiting library path walk r) s t view (Err why)
     → Walks (λ library. visit_all (visiting library) path walk (r ∷ rs)) s t see (Err why)
 unfolding visit_all
@@ -163,7 +167,8 @@ one_less n k room = omega (arith, leb-false 256 (n + k) room)
 -- ---- a list by its first item
 
 pub visits_next_at : (visiting : Library → Visiting) (path : List Name) (walk further : Walk) (r : Reference) (rs rest : List Reference)
-    (s t u : Shelf) (view : Unit {0} → Walk) (result : Result (Unit {0}) FlattenRefusal) → r ≡ get_or rs 0 r → 1 ≤ length rs
+    (s t u : Stock) (view : Unit {0} → Walk) (result : Result (Unit {0}) FlattenRefusal) → r ≡ get_or rs 0 r
+    → 1 ≤ length rs
     → rest ≡ drop 1 rs → Walks (λ library. visiting library path walk r) s t (become further) (Ok tt)
     → Walks (λ library. visit_all (visiting library) path further rest) t u view result
     → Walks (λ library. visit_all (visiting library) path walk rs) s u view result
@@ -174,7 +179,7 @@ visits_next_at visiting path walk further r (x ∷ xs) rest s t u view result is
     (subst (λ z. Walks (λ library. visit_all (visiting library) path further z) t u view result) behind others)
 
 pub visits_ended_at : (visiting : Library → Visiting) (path : List Name) (walk : Walk) (r : Reference) (rs : List Reference)
-    (s t : Shelf) (view see : Unit {0} → Walk) (why : FlattenRefusal) → r ≡ get_or rs 0 r → 1 ≤ length rs
+    (s t : Stock) (view see : Unit {0} → Walk) (why : FlattenRefusal) → r ≡ get_or rs 0 r → 1 ≤ length rs
     → Walks (λ library. visiting library path walk r) s t view (Err why)
     → Walks (λ library. visit_all (visiting library) path walk rs) s t see (Err why)
 visits_ended_at visiting path walk r [] s t view see why is some one = absurd (omega (arith, some))
@@ -182,7 +187,7 @@ visits_ended_at visiting path walk r (x ∷ xs) s t view see why is some one =
     visits_ended visiting path walk x xs s t view see why
     (subst (λ z. Walks (λ library. visiting library path walk z) s t view (Err why)) is one)
 
-pub visits_none_at : (visiting : Library → Visiting) (path : List Name) (walk : Walk) (rs : List Reference) (s : Shelf)
+pub visits_none_at : (visiting : Library → Visiting) (path : List Name) (walk : Walk) (rs : List Reference) (s : Stock)
     → length rs < 1 → Walks (λ library. visit_all (visiting library) path walk rs) s s (become walk) (Ok tt)
 visits_none_at visiting path walk [] s few = visits_none visiting path walk s
 visits_none_at visiting path walk (x ∷ xs) s few = absurd (omega (arith, few))

@@ -7,6 +7,7 @@ pub mod Finds
 pub mod Readings
 pub mod Openings
 pub mod Visits
+pub mod Ordered
 pub mod Walks
 pub mod Loads
 pub mod Flattens

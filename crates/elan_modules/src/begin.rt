@@ -1,13 +1,13 @@
 //! Instances that are begun.
 
-ghost use Rattle.std.specs.Prelude.{◌≡◌, ◌≤◌, ◌+◌, true, false, length, map, Some, IfOk};
+ghost use Rattle.std.specs.Prelude.{◌≡◌, ◌≤◌, ◌+◌, true, false, length, map, Some, None, IfOk};
 ghost use Rattle.elan_modules.specs.declared.flat.Origin.TheVariants.{Builtin, Text};
 ghost use Rattle.elan_modules.specs.Modules as modules;
 ghost use Rattle.elan_modules.specs.Visits as spec;
 ghost use Rattle.elan_modules.specs.Finds.{Stands};
 ghost use Rattle.elan_modules.specs.Fitting.{IsOriginOf};
 ghost use Rattle.elan_modules.specs.Walking.{Keeps};
-ghost use Rattle.elan_modules.specs.Walks.{Walks, Stays, Is, shelf};
+ghost use Rattle.elan_modules.specs.Walks.{Walks, Stays, Is, stock};
 ghost use Rattle.elan_modules.specs.Loads.{HasOne, IsOwn, walk_with, begun_with, itself};
 
 use crate::find::find;
@@ -141,11 +141,13 @@ fn begin_loaded<L: Loader>(
     loaders: &mut [L],
     reference: &Reference,
 ) -> Result<Opening, FlattenRefusal>
-    requires { modules.is_name reference.now.name.bytes ≡ true }
+    requires named { modules.is_name reference.now.name.bytes ≡ true }
+    requires absent { modules.find 0 walk.old.texts reference.now.name.bytes ≡ None }
     ensures walks { Walks (λ library. spec.next
         (spec.fetched walk.old reference.now (library reference.now.name.bytes))
         (spec.begun_text reference.now))
-        (shelf L.library L.misses L.failures loaders.old) (shelf L.library L.misses L.failures loaders.new)
+        (stock L.library L.misses L.failures loaders.old walk.old.texts)
+        (stock L.library L.misses L.failures loaders.new walk.new.texts)
         (begun_with walk.new) result }
     ensures kept { Keeps walk.old.texts walk.new.texts }
     ensures origin { IfOk result (λ opening.
@@ -190,7 +192,8 @@ fn begin_text<L: Loader>(
 ) -> Result<Opening, FlattenRefusal>
     ensures walks { Walks (λ library. spec.next (spec.located library walk.old reference.now)
         (spec.begun_text reference.now))
-        (shelf L.library L.misses L.failures loaders.old) (shelf L.library L.misses L.failures loaders.new)
+        (stock L.library L.misses L.failures loaders.old walk.old.texts)
+        (stock L.library L.misses L.failures loaders.new walk.new.texts)
         (begun_with walk.new) result }
     ensures kept { Keeps walk.old.texts walk.new.texts }
     ensures origin { IfOk result (λ opening.
@@ -216,7 +219,8 @@ pub(crate) fn begin<L: Loader>(
     reference: &Reference,
 ) -> Result<Opening, FlattenRefusal>
     ensures walks { Walks (λ library. spec.begun library walk.old reference.now)
-        (shelf L.library L.misses L.failures loaders.old) (shelf L.library L.misses L.failures loaders.new)
+        (stock L.library L.misses L.failures loaders.old walk.old.texts)
+        (stock L.library L.misses L.failures loaders.new walk.new.texts)
         (begun_with walk.new) result }
     ensures kept { Keeps walk.old.texts walk.new.texts }
     ensures origin { IfOk result (λ opening.

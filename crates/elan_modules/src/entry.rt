@@ -1,6 +1,6 @@
 //! A program flattened to the list of its module instances.
 
-ghost use Rattle.std.specs.Prelude.{◌≡◌, ◌≤◌, ◌<◌, ◌+◌, ◌++◌, [], false, true, length, map, slice_get, IfOk, Some, None};
+ghost use Rattle.std.specs.Prelude.{◌≡◌, ◌≤◌, ◌<◌, ◌+◌, ◌++◌, ◌∷◌, [], false, true, length, map, slice_get, IfOk, Some, None};
 ghost use Rattle.std.specs.List.{list_any};
 ghost use Rattle.elan_modules.specs.Sorts as sorts;
 ghost use Rattle.elan_modules.specs.Modules as modules;
@@ -9,9 +9,10 @@ ghost use Rattle.elan_lexer.specs.Text.{Fits};
 ghost use Rattle.elan_loaders.specs.Libraries.{first_told, SomeRose, EachRose, NoneFell};
 ghost use Rattle.elan_modules.specs.declared.flat.LoadedText.{LoadedText as TextValue};
 ghost use Rattle.elan_modules.specs.Fitting.{IsFitting, IsFlat};
-ghost use Rattle.elan_modules.specs.Flattens.{AllTold, Gives};
-ghost use Rattle.elan_modules.specs.Walks.{Walks, IsSound, Comes, Lacks, shelf, is_fault, is_absent};
-ghost use Rattle.elan_modules.specs.Loads.{itself};
+ghost use Rattle.elan_modules.specs.Ordered.{IsOrdered};
+ghost use Rattle.elan_modules.specs.Flattens.{AllTold, Gives, StopsAt};
+ghost use Rattle.elan_modules.specs.Walks.{Walks, IsSound, IsAnswer, Comes, Lacks, stock, is_fault, is_absent};
+ghost use Rattle.elan_modules.specs.Loads.{itself, texts_of, texts_in};
 
 use crate::flat::{Flat, FlattenRefusal, LoadedText};
 use crate::modules::{add_references, name_of, standard_of};
@@ -47,8 +48,14 @@ pub fn flatten(
         → Gives result (spec.flat_program spec.nobody bytes.now tokens.now outline) }
     ensures sound { (said : spec.Library) → IsSound said (map (λ l. library l) loaders.old.items)
         → Comes itself result (spec.flat_program said bytes.now tokens.now outline) }
+    // What is answered for whatever the loaders gave, told or not: that of the walk over just these answers.
+    ensures answered { (said : spec.Library)
+        × IsAnswer (map (λ l. library l) loaders.old.items) said
+        × StopsAt result (spec.flat_program said bytes.now tokens.now outline) }
     // What stands in the program, where the tokens are those of the stream.
     ensures flat { IfOk result (λ f. Fits bytes.now tokens.now → IsFlat f) }
+    // In which order its instances stand: each one once, behind those that it imports.
+    ensures ordered { IfOk result IsOrdered }
     // Why a loader's fault and a missing module are answered.
     ensures fault { is_fault result ≡ true
         → SomeRose (map (λ l. failures l) loaders.old.items) (map (λ l. failures l) loaders.new.items) }
@@ -152,8 +159,8 @@ fn walked<L: Loader>(
     loaders: &mut [L],
 ) -> Result<Walk, FlattenRefusal>
     ensures walks { Walks (λ library. spec.walked library stream lpl.now)
-        (shelf L.library L.misses L.failures loaders.old) (shelf L.library L.misses L.failures loaders.new)
-        itself result }
+        (stock L.library L.misses L.failures loaders.old (stream ∷ []))
+        (stock L.library L.misses L.failures loaders.new (texts_of result)) itself result }
     ensures first { IfOk result (λ walk. slice_get walk.texts 0 ≡ Some stream) }
 {
     let twice = named_twice(alloc, &stream)?;
@@ -182,8 +189,9 @@ fn flatten_with<L: Loader>(
     loaders: &mut [L],
 ) -> Result<Flat, FlattenRefusal>
     ensures walks { Walks (λ library. spec.flat_program library bytes.now tokens.now outline)
-        (shelf L.library L.misses L.failures loaders.old) (shelf L.library L.misses L.failures loaders.new)
-        itself result }
+        (stock L.library L.misses L.failures loaders.old
+        (spec.stream_of bytes.now tokens.now outline ∷ []))
+        (stock L.library L.misses L.failures loaders.new (texts_in result)) itself result }
     ensures flat { IfOk result (λ f. Fits bytes.now tokens.now → IsFlat f) }
 {
     let Outline {

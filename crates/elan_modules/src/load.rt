@@ -1,10 +1,10 @@
 //! The text of a module, from the loaders.
 
-ghost use Rattle.std.specs.Prelude.{◌≡◌, ◌≤◌, ◌+◌, true, false, length, map, nat_lt, IfOk};
+ghost use Rattle.std.specs.Prelude.{◌≡◌, ◌≤◌, ◌+◌, true, false, length, map, nat_lt, IfOk, None};
 ghost use Rattle.elan_modules.specs.Modules as modules;
 ghost use Rattle.elan_modules.specs.Visits as spec;
-ghost use Rattle.elan_modules.specs.Walks.{Walks, Stays, Is, shelf};
-ghost use Rattle.elan_modules.specs.Loads.{HasOne, IsOwn, walk_with};
+ghost use Rattle.elan_modules.specs.Walks.{Walks, Stays, Is, stock};
+ghost use Rattle.elan_modules.specs.Loads.{HasOne, IsOwn, walk_with, texts_with};
 
 use crate::flat::{FlattenRefusal, LoadedText};
 use crate::modules::copy_owner;
@@ -25,10 +25,12 @@ pub(crate) fn load<L: Loader>(
     loaders: &mut [L],
     reference: &Reference,
 ) -> Result<LoadedText, FlattenRefusal>
-    requires { modules.is_name reference.now.name.bytes ≡ true }
+    requires named { modules.is_name reference.now.name.bytes ≡ true }
+    requires absent { modules.find 0 walk.now.texts reference.now.name.bytes ≡ None }
     ensures walks { Walks (λ library. spec.fetched walk.now reference.now
         (library reference.now.name.bytes))
-        (shelf L.library L.misses L.failures loaders.old) (shelf L.library L.misses L.failures loaders.new)
+        (stock L.library L.misses L.failures loaders.old walk.now.texts)
+        (stock L.library L.misses L.failures loaders.new (texts_with walk.now.texts result))
         (walk_with walk.now) result }
     ensures one { IfOk result (λ text. HasOne text.modules) }
     ensures own { IfOk result (λ text. IsOwn reference.now.name text) }

@@ -4,7 +4,7 @@ ghost use Rattle.std.specs.Prelude.{◌≡◌, ◌≤◌, ◌<◌, ◌+◌, ◌-
 ghost use Rattle.std.specs.List.{list_any};
 ghost use Rattle.elan_modules.specs.Visits as spec;
 ghost use Rattle.elan_modules.specs.Walking.{Keeps};
-ghost use Rattle.elan_modules.specs.Walks.{Walks, Stays, Is, shelf};
+ghost use Rattle.elan_modules.specs.Walks.{Walks, Stays, Is, stock};
 ghost use Rattle.elan_modules.specs.Loads.{become};
 
 use crate::begin::begin;
@@ -57,7 +57,8 @@ pub(crate) fn visit<L: Loader>(
 ) -> Result<(), FlattenRefusal>
     ensures walks { Walks (λ library. spec.visit
         (256 - length path.now) library path.now walk.old reference.now)
-        (shelf L.library L.misses L.failures loaders.old) (shelf L.library L.misses L.failures loaders.new)
+        (stock L.library L.misses L.failures loaders.old walk.old.texts)
+        (stock L.library L.misses L.failures loaders.new walk.new.texts)
         (become walk.new) result }
     ensures kept { Keeps walk.old.texts walk.new.texts }
 {
@@ -86,7 +87,8 @@ fn complete<L: Loader>(
     requires { length path.now < 256 }
     ensures walks { Walks (λ library. spec.next (spec.begun library walk.old reference.now)
         (spec.completed (spec.visit (256 - (length path.now + 1)) library) path.now reference.now))
-        (shelf L.library L.misses L.failures loaders.old) (shelf L.library L.misses L.failures loaders.new)
+        (stock L.library L.misses L.failures loaders.old walk.old.texts)
+        (stock L.library L.misses L.failures loaders.new walk.new.texts)
         (become walk.new) result }
     ensures kept { Keeps walk.old.texts walk.new.texts }
 {
@@ -114,7 +116,8 @@ pub(crate) fn visit_all<L: Loader>(
 ) -> Result<(), FlattenRefusal>
     ensures walks { Walks (λ library. spec.visit_all
         (spec.visit (256 - length path.now) library) path.now walk.old references.now)
-        (shelf L.library L.misses L.failures loaders.old) (shelf L.library L.misses L.failures loaders.new)
+        (stock L.library L.misses L.failures loaders.old walk.old.texts)
+        (stock L.library L.misses L.failures loaders.new walk.new.texts)
         (become walk.new) result }
     ensures kept { Keeps walk.old.texts walk.new.texts }
 {

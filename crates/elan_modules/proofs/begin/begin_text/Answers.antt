@@ -1,5 +1,5 @@
 use Rattle.std.proofs.Common.{sym, ◌∙◌}
-use Rattle.elan_modules.proofs.BeginLemmas.{begins_found, begins_loaded, begins_nameless}
+use Rattle.elan_modules.proofs.BeginLemmas.{not_found, begins_found, begins_loaded, begins_nameless}
 use Rattle.elan_modules.proofs.NamedLemmas.{found_origin, origin_is}
 use Rattle.elan_modules.proofs.begin.begin_text.Goals as goal
 
@@ -25,3 +25,7 @@ returns-in-Some-clause-origin g c =
     let found = rw (c.texts.ensures, c.as_bytes.ensures) at c.in-Some.ensures in
     origin_is c.args.walk.now.texts c.args.reference.now.name.bytes _ _ c.begin_found.ensures.origin
     (found_origin c.args.walk.now.texts c.args.reference.now.name.bytes c.in-Some.spot found)
+
+pub begin_loaded-requires-clause-absent : goal.begin_loaded-requires-clause-absent
+begin_loaded-requires-clause-absent g c =
+    not_found _ _ (rw (c.texts.ensures, c.as_bytes.ensures) at c.in-None.ensures)

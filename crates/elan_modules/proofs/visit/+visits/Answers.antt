@@ -1,8 +1,21 @@
 use Rattle.std.proofs.Common.{sym, ◌∙◌, length}
 use Rattle.std.proofs.lemmas.List.{take_rest}
+use Rattle.elan_modules.specs.Loads.{become}
+use Rattle.elan_modules.proofs.WalkLemmas.{walks_then, walks_ended}
 use Rattle.elan_modules.proofs.VisitLemmas.{visits_none_at, err_is, one_less, completes_ended, completes_finished, completes_hungry, visits_on, visits_done, visits_full, visits_begun, visits_next_at, visits_ended_at}
-use Rattle.elan_modules.proofs.EntryLemmas.{hungry_still}
+use Rattle.elan_modules.proofs.EntryLemmas.{hungry_still, walks_error}
 use Rattle.elan_modules.proofs.visit.+visits.Goals as goal
+
+pub complete-returns-in_err-opening-clause-walks : goal.complete-returns-in_err-opening-clause-walks
+complete-returns-in_err-opening-clause-walks g t c =
+    let first = rw c.in_err-opening.was at c.begin.ensures.walks in
+    rw (err_is _ _ c.from_residual.ensures.1) (walks_ended _ _ _ _ _ _ _ first)
+
+pub complete-returns-in_err-longer-clause-walks : goal.complete-returns-in_err-longer-clause-walks
+complete-returns-in_err-longer-clause-walks g t c =
+    let first = rw c.in_ok-opening.was at c.begin.ensures.walks in
+    rw (err_is _ _ c.from_residual-in_err-longer.ensures.1)
+    (walks_then _ _ _ _ _ _ _ _ _ first (hungry_still _ _ _ _))
 
 pub complete-returns-in_err-visit_all-clause-walks : goal.complete-returns-in_err-visit_all-clause-walks
 complete-returns-in_err-visit_all-clause-walks g t c =
@@ -16,7 +29,8 @@ complete-returns-in_err-finish-clause-walks g t c =
     let first = rw c.in_ok-opening.was at c.begin.ensures.walks in
     let second = rw c.in_ok-visit_all.was at c.visit_all.ensures.walks in
     rw (err_is _ _ c.from_residual-in_err-finish.ensures.1)
-    (completes_hungry _ _ _ _ _ _ _ _ _ _ first (c.as_slice.ensures ∙ c.in_ok-longer.ensures) c.as_slice-2.ensures _ second _)
+    (walks_error _ _ _ _ _ _ _
+    (completes_hungry _ _ _ _ _ _ _ _ _ _ first (c.as_slice.ensures ∙ c.in_ok-longer.ensures) c.as_slice-2.ensures _ second (become c.args.walk.now)))
 
 pub complete-returns-clause-walks : goal.complete-returns-clause-walks
 complete-returns-clause-walks g t c =
@@ -30,7 +44,7 @@ visit-returns-then-is_on-clause-walks g t c =
     visits_on c.args.path.now c.args.walk.now c.args.reference.now _ _ _ (sym c.is_on.ensures ∙ c.if-is_on.true) c.refused_at.ensures
 
 pub visit-returns-in_err-done-clause-walks : goal.visit-returns-in_err-done-clause-walks
-visit-returns-in_err-done-clause-walks g t c = rw (err_is _ _ c.from_residual.ensures.1) (hungry_still _ _ _)
+visit-returns-in_err-done-clause-walks g t c = rw (err_is _ _ c.from_residual.ensures.1) (hungry_still _ _ _ _)
 
 pub visit-returns-then-done-clause-walks : goal.visit-returns-then-done-clause-walks
 visit-returns-then-done-clause-walks g t c =

@@ -2,7 +2,7 @@ use Rattle.std.proofs.Common.{◌+◌, ◌-◌, ◌*◌, length, Result}
 use Rattle.elan_modules.specs.declared.flat.FlattenRefusal.{FlattenRefusal}
 use Rattle.elan_modules.specs.Walking.{Walk, Keeps}
 use Rattle.elan_modules.specs.Visits as spec
-use Rattle.elan_modules.specs.Walks.{Shelf, Walks, shelf}
+use Rattle.elan_modules.specs.Walks.{Stock, Walks, stock}
 use Rattle.elan_modules.proofs.visit.+visits.Given as goal
 
 -- a path becomes longer; on one path the references of a module are visited, then one of them, then it is begun
@@ -19,11 +19,11 @@ decreases-visit_all g l = 4 * (257 - length l.path.now) + 3
 -- and the texts that were there when it began stand at their numbers
 abbrev pub invariant-visit_all-references : goal.invariant-visit_all-references
 invariant-visit_all-references g l = record {
-  whole : (t : Shelf) (view : Unit {0} → Walk) (result : Result (Unit {0}) FlattenRefusal)
+  whole : (t : Stock) (view : Unit {0} → Walk) (result : Result (Unit {0}) FlattenRefusal)
       → Walks (λ library. spec.visit_all (spec.visit (256 - length l.path) library) l.path l.walk l.left)
-      (shelf g.L.Loader.library g.L.Loader.misses g.L.Loader.failures l.loaders) t view result
+      (stock g.L.Loader.library g.L.Loader.misses g.L.Loader.failures l.loaders l.walk.texts) t view result
       → Walks (λ library. spec.visit_all (spec.visit (256 - length l.path) library) l.path l.fn.walk l.references)
-      (shelf g.L.Loader.library g.L.Loader.misses g.L.Loader.failures l.fn.loaders) t view result;
+      (stock g.L.Loader.library g.L.Loader.misses g.L.Loader.failures l.fn.loaders l.fn.walk.texts) t view result;
   kept : Keeps l.fn.walk.texts l.walk.texts;
 }
 

@@ -12,17 +12,17 @@ use Rattle.elan_reading.specs.declared.sought.Sought.{Sought}
 use Rattle.elan_reading.specs.declared.sought.Sought.TheVariants as sought
 use Rattle.elan_reading.specs.declared.sought.ReadingRefusal.{ReadingRefusal}
 use Rattle.elan_reading.specs.declared.sought.ReadingRefusal.TheVariants as refusal
-use Rattle.elan_chart.specs.declared.found.Key.{Key}
-use Rattle.elan_chart.specs.declared.found.Key.TheVariants.{Whole, Rest}
-use Rattle.elan_chart.specs.declared.found.Found.{Found}
-use Rattle.elan_chart.specs.declared.found.Found.TheVariants.{One, Several}
-use Rattle.elan_chart.specs.declared.found.Entry.{Entry}
+use Rattle.elan_entries.specs.declared.found.Key.{Key}
+use Rattle.elan_entries.specs.declared.found.Key.TheVariants.{Whole, Rest}
+use Rattle.elan_entries.specs.declared.found.Found.{Found}
+use Rattle.elan_entries.specs.declared.found.Found.TheVariants.{One, Several}
+use Rattle.elan_entries.specs.declared.found.Entry.{Entry}
 use Rattle.elan_text.specs.declared.name.Name.{Name}
 use Rattle.elan_terms.specs.Match.{is_sort}
 use Rattle.elan_terms.proofs.Lists.{In, in_left, in_right}
 use Rattle.elan_reading.specs.Edge.{is_injection}
-use Rattle.elan_chart.specs.Pieces.{is_hole_at, is_arg_at, is_injection_from, source, last_sort}
-use Rattle.elan_chart.specs.Sets.{IsGood, Has, AreGood, HasAt}
+use Rattle.elan_entries.specs.Pieces.{is_hole_at, is_arg_at, is_injection_from, source, last_sort}
+use Rattle.elan_entries.specs.Sets.{IsGood, Has, AreGood, HasAt}
 use Rattle.elan_chart.specs.Offers.{row_of, at_sort}
 use Rattle.elan_chart.specs.Chart.{scope_of, may_occur, end_of, ends, blank, added, added_at, by_sort, last_in, run_or, rows}
 use Rattle.elan_chart.specs.Answer.{is_sought, with_more, all_sought, longest, IsThe, Refuses}
@@ -30,8 +30,8 @@ use Rattle.elan_reading.specs.Readings as run
 use Rattle.elan_reading.specs.Answers.{is_injected, IsReading, IsOnly, IsRefused}
 use Rattle.elan_chart.specs.Spans.{Reads, Set}
 use Rattle.elan_chart.specs.Result.{IsOutcome}
-use Rattle.elan_chart.proofs.SameLemmas.{both_true, nat_same}
-use Rattle.elan_chart.proofs.FoundLemmas.{append-left, append-right, merged-keeps, merged-has, merged-good, good-map}
+use Rattle.elan_entries.proofs.SameLemmas.{both_true, nat_same}
+use Rattle.elan_entries.proofs.FoundLemmas.{append-left, append-right, merged-keeps, merged-has, merged-good, good-map}
 use Rattle.elan_chart.proofs.StepsGood.{first_one, not_true}
 use Rattle.elan_chart.proofs.StepsFull.{under}
 use Rattle.elan_chart.proofs.ChartGood.{AreRows, rows-good, ends-good, get-good}

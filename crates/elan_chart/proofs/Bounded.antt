@@ -11,8 +11,8 @@ use Rattle.elan_program.specs.declared.signature.Signature.{Signature}
 use Rattle.elan_program.specs.Soundness.{has_sort_id, leads, injections, led_on, chains, has_no_cycle, is_some_list, is_sound, is_sound_operator, is_spelling_of, most, int_fits, truth_fits}
 use Rattle.elan_reading.specs.Edge.{is_injection, is_one_hole}
 use Rattle.elan_terms.specs.Match.{is_sort}
-use Rattle.elan_chart.specs.Pieces.{is_injection_from}
-use Rattle.elan_chart.proofs.SameLemmas.{both_true, nat_same}
+use Rattle.elan_entries.specs.Pieces.{is_injection_from}
+use Rattle.elan_entries.proofs.SameLemmas.{both_true, nat_same}
 use Rattle.elan_chart.proofs.ChartFull.{Path, none, more, or_left, or_right}
 
 no_true : false ≡ true → ⊥

@@ -12,21 +12,22 @@ use Rattle.elan_terms.specs.declared.tree.Pattern.{Pattern}
 use Rattle.elan_program.specs.declared.signature.Operator.{Operator}
 use Rattle.elan_program.specs.declared.signature.Signature.{Signature}
 use Rattle.elan_reading.specs.declared.lexeme.Lexeme.{Lexeme}
-use Rattle.elan_chart.specs.declared.found.Key.{Key}
-use Rattle.elan_chart.specs.declared.found.Key.TheVariants.{Whole, Rest}
-use Rattle.elan_chart.specs.declared.found.Entry.{Entry}
+use Rattle.elan_entries.specs.declared.found.Key.{Key}
+use Rattle.elan_entries.specs.declared.found.Key.TheVariants.{Whole, Rest}
+use Rattle.elan_entries.specs.declared.found.Entry.{Entry}
 use Rattle.elan_program.specs.Extension.{app_pattern}
 use Rattle.elan_program.specs.declared.signature.Piece.{Piece}
 use Rattle.elan_program.specs.declared.signature.Piece.TheVariants as piece
 use Rattle.elan_reading.specs.Edge.{is_injection, is_one_hole, own_tie}
-use Rattle.elan_chart.specs.Pieces.{takes_hole, fits_arg, fits_hole, is_hole_of, is_its_word, is_sign, is_hole_at, is_arg_at, last_sort, is_word_at, is_word_before, fits_before, is_injection_from}
-use Rattle.elan_chart.specs.Found.{put_all}
+use Rattle.elan_entries.specs.Lexemes.{is_sign}
+use Rattle.elan_entries.specs.Pieces.{takes_hole, fits_arg, fits_hole, is_hole_of, is_its_word, is_hole_at, is_arg_at, last_sort, is_word_at, is_word_before, fits_before, is_injection_from}
+use Rattle.elan_entries.specs.Found.{put_all}
 use Rattle.elan_chart.specs.Offers.{at_sort, risen, last_offers, word_offers, cut_offers, integer_offers, token_offers}
 use Rattle.elan_chart.specs.Chart.{Scope, occurs, may_occur, climb, cut_at, cuts, run_or, run_in, framed, offers, direct, wholes, run, row, rows}
-use Rattle.elan_chart.specs.Sets.{HasAt}
+use Rattle.elan_entries.specs.Sets.{HasAt}
 use Rattle.elan_chart.specs.Spans.{Reads, Fills, variable, number, minus, operator, injection, group, done, word, hole}
-use Rattle.elan_chart.proofs.SameLemmas.{both_true, nat_same}
-use Rattle.elan_chart.proofs.FoundLemmas.{put_all-keeps, put_all-has, append-left, append-right}
+use Rattle.elan_entries.proofs.SameLemmas.{both_true, nat_same}
+use Rattle.elan_entries.proofs.FoundLemmas.{put_all-keeps, put_all-has, append-left, append-right}
 use Rattle.elan_chart.proofs.StepsGood.{some_one}
 use Rattle.elan_chart.proofs.StepsFull.{under, under_not, and_true, less_one, Gives, gives-whole, gives-rest, words-have, cut-has, lasts-have, risen-has, groups-have, tokens-have-variable, tokens-have-number, integers-have}
 

@@ -6,18 +6,18 @@ use Rattle.elan_program.specs.declared.signature.Signature.{Signature}
 use Rattle.elan_reading.specs.declared.lexeme.Lexeme.{Lexeme}
 use Rattle.elan_reading.specs.declared.lexeme.Variable.{Variable}
 use Rattle.elan_terms.specs.declared.tree.Pattern.{Pattern}
-use Rattle.elan_chart.specs.declared.found.Key.{Key}
-use Rattle.elan_chart.specs.declared.found.Key.TheVariants.{Rest}
-use Rattle.elan_chart.specs.declared.found.Found.TheVariants.{One}
-use Rattle.elan_chart.specs.declared.found.Entry.{Entry}
-use Rattle.elan_chart.specs.Pieces.{is_sign}
-use Rattle.elan_chart.specs.Found.{put_all}
+use Rattle.elan_entries.specs.declared.found.Key.{Key}
+use Rattle.elan_entries.specs.declared.found.Key.TheVariants.{Rest}
+use Rattle.elan_entries.specs.declared.found.Found.TheVariants.{One}
+use Rattle.elan_entries.specs.declared.found.Entry.{Entry}
+use Rattle.elan_entries.specs.Lexemes.{is_sign}
+use Rattle.elan_entries.specs.Found.{put_all}
 use Rattle.elan_chart.specs.Offers.{entry, risen, last_offers, word_offers, group_offers, integer_offers, token_offers}
 use Rattle.elan_chart.specs.Chart.{Scope, may_occur, end_of, ends, climb, cut_at, cuts, run_or, run_in, framed, offers, direct, wholes, run, row, rows}
-use Rattle.elan_chart.specs.Sets.{AreGood}
+use Rattle.elan_entries.specs.Sets.{AreGood}
 use Rattle.elan_chart.specs.Spans.{Set, done}
-use Rattle.elan_chart.proofs.SameLemmas.{nat_same}
-use Rattle.elan_chart.proofs.FoundLemmas.{append-good, put_all-good}
+use Rattle.elan_entries.proofs.SameLemmas.{nat_same}
+use Rattle.elan_entries.proofs.FoundLemmas.{append-good, put_all-good}
 use Rattle.elan_chart.proofs.StepsGood.{words-good, cut-good, risen-good, lasts-good, groups-good, tokens-good, minus-good}
 
 module _ (w : Scope) (tokens : List Lexeme) where

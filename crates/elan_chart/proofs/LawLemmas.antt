@@ -27,13 +27,13 @@ use Rattle.elan_reading.specs.Lexemes.{lexeme_of, IsInRange}
 use Rattle.elan_reading.specs.Readings.{Reads, Fills, variable, number, minus, operator, injection, group, done, word, hole}
 use Rattle.elan_reading.specs.Answers.{IsReading, IsOnly, HasNone, HasSeveral}
 use Rattle.elan_reading.proofs.SortLaws.{sorted}
-use Rattle.elan_chart.specs.declared.found.Found.{Found}
-use Rattle.elan_chart.specs.declared.found.Found.TheVariants.{One, Several}
+use Rattle.elan_entries.specs.declared.found.Found.{Found}
+use Rattle.elan_entries.specs.declared.found.Found.TheVariants.{One, Several}
 use Rattle.elan_chart.specs.Chart.{rows, scope_of}
 use Rattle.elan_chart.specs.Answer.{all_sought, longest}
 use Rattle.elan_chart.specs.Result.{IsOutcome}
 use Rattle.elan_chart.specs.Fitting.{as_numbered, IsOfSought}
-use Rattle.elan_chart.proofs.SameLemmas.{nat_self}
+use Rattle.elan_entries.proofs.SameLemmas.{nat_self}
 use Rattle.elan_chart.proofs.StepsFull.{and_true}
 use Rattle.elan_chart.proofs.ChartFull.{or_left, or_right}
 use Rattle.elan_chart.proofs.AnswerLemmas.{outcome}

@@ -1,14 +1,9 @@
-pub mod Digits
-pub mod SameLemmas
-pub mod FoundLemmas
 pub mod StepsGood
 pub mod ChartGood
 pub mod StepsFull
 pub mod ChartFull
-pub mod NodeLemmas
 pub mod Bounded
 pub mod AnswerLemmas
-pub mod PutLemmas
 pub mod SpanLemmas
 pub mod LawLemmas
 pub mod TableLemmas

@@ -19,7 +19,8 @@ use Rattle.elan_reading.specs.declared.lexeme.Variable.{Variable}
 use Rattle.elan_program.specs.Extension.{var_pattern, int_pattern, app_pattern}
 use Rattle.elan_reading.specs.Edge.{is_injection, own_tie, tie_of, side_of, fits}
 use Rattle.elan_terms.specs.Match.{is_sort}
-use Rattle.elan_chart.specs.Pieces.{takes_hole, fits_arg, fits_hole, position_at, side_before, is_word_kind, is_number_kind, is_sign_kind, is_sign, is_hole_of, is_its_word, is_hole_at, is_word_at, is_arg_at, is_injection_from}
+use Rattle.elan_entries.specs.Lexemes.{is_word_kind, is_number_kind, is_sign_kind, is_sign}
+use Rattle.elan_entries.specs.Pieces.{takes_hole, fits_arg, fits_hole, position_at, side_before, is_hole_of, is_its_word, is_hole_at, is_word_at, is_arg_at, is_injection_from}
 use Rattle.elan_reading.specs.declared.edge.Position.{Position}
 use Rattle.elan_reading.specs.declared.edge.Position.TheVariants.{First, Later}
 use Rattle.elan_reading.specs.declared.edge.Side.TheVariants.{Left, Inner, Right}
@@ -28,7 +29,7 @@ use Rattle.elan_reading.specs.Readings as run
 use Rattle.elan_reading.specs.Readings.{passed, head, is_allowed}
 use Rattle.elan_reading.specs.Answers.{is_injection_of, is_injected}
 use Rattle.elan_chart.specs.Spans as span
-use Rattle.elan_chart.proofs.SameLemmas.{both_true, nat_same, nat_self}
+use Rattle.elan_entries.proofs.SameLemmas.{both_true, nat_same, nat_self}
 use Rattle.elan_chart.proofs.StepsGood.{some_one}
 use Rattle.elan_chart.proofs.StepsFull.{and_true, less_one}
 

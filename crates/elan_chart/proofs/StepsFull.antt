@@ -9,20 +9,21 @@ use Rattle.elan_program.specs.declared.signature.Operator.{Operator}
 use Rattle.elan_program.specs.declared.signature.Signature.{Signature}
 use Rattle.elan_reading.specs.declared.lexeme.Lexeme.{Lexeme}
 use Rattle.elan_reading.specs.declared.lexeme.Variable.{Variable}
-use Rattle.elan_chart.specs.declared.found.Key.{Key}
-use Rattle.elan_chart.specs.declared.found.Key.TheVariants.{Whole, Rest}
-use Rattle.elan_chart.specs.declared.found.Found.{Found}
-use Rattle.elan_chart.specs.declared.found.Found.TheVariants.{One, Several}
-use Rattle.elan_chart.specs.declared.found.Entry.{Entry}
+use Rattle.elan_entries.specs.declared.found.Key.{Key}
+use Rattle.elan_entries.specs.declared.found.Key.TheVariants.{Whole, Rest}
+use Rattle.elan_entries.specs.declared.found.Found.{Found}
+use Rattle.elan_entries.specs.declared.found.Found.TheVariants.{One, Several}
+use Rattle.elan_entries.specs.declared.found.Entry.{Entry}
 use Rattle.elan_program.specs.Extension.{app_pattern, var_pattern, int_pattern}
 use Rattle.elan_reading.specs.Edge.{is_injection, own_tie}
-use Rattle.elan_chart.specs.Pieces.{takes_hole, fits_arg, fits_hole, is_word_kind, is_number_kind, is_sign, is_word_at, fits_before, is_injection_from}
-use Rattle.elan_chart.specs.Found.{joined, applied}
-use Rattle.elan_chart.specs.Offers.{integer, advanced, word_of, word_at, word_offer, word_offers, tree_at, tree_offer, rest_of, rest_at, rest_offer, cut_offers, injection_of, injection_offer, at_sort, risen_at, risen_offer, risen, last_by, last_offer, lasts_at, lasts_offer, last_offers, group_at, group_offer, group_offers, variable_offer, variable_offers, integer_offers, token_offers}
-use Rattle.elan_chart.specs.Sets.{Has, HasAt}
+use Rattle.elan_entries.specs.Lexemes.{is_word_kind, is_number_kind, is_sign, integer}
+use Rattle.elan_entries.specs.Pieces.{takes_hole, fits_arg, fits_hole, is_word_at, fits_before, is_injection_from}
+use Rattle.elan_entries.specs.Found.{joined, applied}
+use Rattle.elan_chart.specs.Offers.{advanced, word_of, word_at, word_offer, word_offers, tree_at, tree_offer, rest_of, rest_at, rest_offer, cut_offers, injection_of, injection_offer, at_sort, risen_at, risen_offer, risen, last_by, last_offer, lasts_at, lasts_offer, last_offers, group_at, group_offer, group_offers, variable_offer, variable_offers, integer_offers, token_offers}
+use Rattle.elan_entries.specs.Sets.{Has, HasAt}
 use Rattle.elan_terms.proofs.Lists.{In}
-use Rattle.elan_chart.proofs.SameLemmas.{both_true}
-use Rattle.elan_chart.proofs.FoundLemmas.{append-left, append-right, flat-has}
+use Rattle.elan_entries.proofs.SameLemmas.{both_true}
+use Rattle.elan_entries.proofs.FoundLemmas.{append-left, append-right, flat-has}
 
 pub and_true : (a b : Bool) → a ≡ true → b ≡ true → (a && b) ≡ true
 and_true a b e f = ap (λ x. x && b) e ∙ f

@@ -10,20 +10,21 @@ use Rattle.elan_program.specs.declared.signature.Operator.{Operator}
 use Rattle.elan_program.specs.declared.signature.Signature.{Signature}
 use Rattle.elan_reading.specs.declared.lexeme.Lexeme.{Lexeme}
 use Rattle.elan_reading.specs.declared.lexeme.Variable.{Variable}
-use Rattle.elan_chart.specs.declared.found.Key.{Key}
-use Rattle.elan_chart.specs.declared.found.Key.TheVariants.{Whole, Rest}
-use Rattle.elan_chart.specs.declared.found.Found.{Found}
-use Rattle.elan_chart.specs.declared.found.Found.TheVariants.{One, Several}
-use Rattle.elan_chart.specs.declared.found.Entry.{Entry}
+use Rattle.elan_entries.specs.declared.found.Key.{Key}
+use Rattle.elan_entries.specs.declared.found.Key.TheVariants.{Whole, Rest}
+use Rattle.elan_entries.specs.declared.found.Found.{Found}
+use Rattle.elan_entries.specs.declared.found.Found.TheVariants.{One, Several}
+use Rattle.elan_entries.specs.declared.found.Entry.{Entry}
 use Rattle.elan_program.specs.Extension.{app_pattern, var_pattern, int_pattern}
 use Rattle.elan_reading.specs.Edge.{is_injection, own_tie}
-use Rattle.elan_chart.specs.Pieces.{takes_hole, fits_arg, fits_hole, is_word_kind, is_number_kind, is_sign, is_hole_at, is_word_at, fits_before, is_injection_from}
-use Rattle.elan_chart.specs.Found.{joined, applied}
-use Rattle.elan_chart.specs.Offers.{entry, integer, advanced, word_of, word_at, word_offer, word_offers, tree_at, tree_offer, rest_of, rest_at, rest_offer, cut_offers, injection_of, injection_offer, at_sort, risen_at, risen_offer, risen, last_by, last_offer, lasts_at, lasts_offer, last_offers, group_at, group_offer, group_offers, variable_offer, variable_offers, integer_offers, token_offers}
-use Rattle.elan_chart.specs.Sets.{IsGood, AreGood}
+use Rattle.elan_entries.specs.Lexemes.{is_word_kind, is_number_kind, is_sign, integer}
+use Rattle.elan_entries.specs.Pieces.{takes_hole, fits_arg, fits_hole, is_hole_at, is_word_at, fits_before, is_injection_from}
+use Rattle.elan_entries.specs.Found.{joined, applied}
+use Rattle.elan_chart.specs.Offers.{entry, advanced, word_of, word_at, word_offer, word_offers, tree_at, tree_offer, rest_of, rest_at, rest_offer, cut_offers, injection_of, injection_offer, at_sort, risen_at, risen_offer, risen, last_by, last_offer, lasts_at, lasts_offer, last_offers, group_at, group_offer, group_offers, variable_offer, variable_offers, integer_offers, token_offers}
+use Rattle.elan_entries.specs.Sets.{IsGood, AreGood}
 use Rattle.elan_chart.specs.Spans.{Reads, Fills, Set, variable, number, minus, operator, injection, group, done, word, hole}
-use Rattle.elan_chart.proofs.SameLemmas.{both_true, nat_same}
-use Rattle.elan_chart.proofs.FoundLemmas.{append-good, flat-good, good-map}
+use Rattle.elan_entries.proofs.SameLemmas.{both_true, nat_same}
+use Rattle.elan_entries.proofs.FoundLemmas.{append-good, flat-good, good-map}
 
 -- ---- trees
 

@@ -3,10 +3,10 @@ use Rattle.std.proofs.Common.{◌≡◌, refl, sym, ap, ◌∙◌, ℕ, zero, su
 use Rattle.std.proofs.lemmas.List.{take_all}
 use Rattle.elan_terms.specs.declared.tree.OpId.{OpId}
 use Rattle.elan_reading.specs.declared.lexeme.Lexeme.{Lexeme}
-use Rattle.elan_chart.specs.declared.found.Entry.{Entry}
-use Rattle.elan_chart.specs.Found.{put_all}
+use Rattle.elan_entries.specs.declared.found.Entry.{Entry}
+use Rattle.elan_entries.specs.Found.{put_all}
 use Rattle.elan_chart.specs.Chart.{Scope, added, cut_at, cuts}
-use Rattle.elan_chart.proofs.PutLemmas.{put_all_append}
+use Rattle.elan_entries.proofs.PutLemmas.{put_all_append}
 
 pub added_set : (table : List (List OpId)) (at : ℕ) (op : OpId) (row new blank d : List OpId) → at < length table → row ≡ get_or table at d
     → new ≡ row ++ op ∷ [] → slice_set (slice_set table at blank) at new ≡ added table at op

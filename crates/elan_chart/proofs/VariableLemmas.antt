@@ -6,8 +6,8 @@ use Rattle.std.proofs.lemmas.List.{append_assoc, length_push, append-nil}
 use Rattle.elan_reading.specs.declared.lexeme.Variable.{Variable}
 use Rattle.elan_variables.specs.Places.{place_if}
 use Rattle.elan_variables.specs.Named.{is_called, places_of}
-use Rattle.elan_chart.specs.declared.found.Entry.{Entry}
-use Rattle.elan_chart.specs.Found.{put_all}
+use Rattle.elan_entries.specs.declared.found.Entry.{Entry}
+use Rattle.elan_entries.specs.Found.{put_all}
 use Rattle.elan_chart.specs.Offers.{variable_offer, variable_found, variable_at}
 
 -- what stands behind others

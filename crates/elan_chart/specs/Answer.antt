@@ -5,12 +5,12 @@ use Rattle.elan_reading.specs.declared.sought.Sought.TheVariants as sought
 use Rattle.elan_terms.specs.declared.tree.Pattern.{Pattern}
 use Rattle.elan_reading.specs.declared.sought.ReadingRefusal.{ReadingRefusal}
 use Rattle.elan_reading.specs.declared.sought.ReadingRefusal.TheVariants as refusal
-use Rattle.elan_chart.specs.declared.found.Found.TheVariants.{One, Several}
-use Rattle.elan_chart.specs.declared.found.Key.{Key}
-use Rattle.elan_chart.specs.declared.found.Key.TheVariants.{Whole, Rest}
-use Rattle.elan_chart.specs.declared.found.Found.{Found}
-use Rattle.elan_chart.specs.declared.found.Entry.{Entry}
-use Rattle.elan_chart.specs.Found.{merged}
+use Rattle.elan_entries.specs.declared.found.Found.TheVariants.{One, Several}
+use Rattle.elan_entries.specs.declared.found.Key.{Key}
+use Rattle.elan_entries.specs.declared.found.Key.TheVariants.{Whole, Rest}
+use Rattle.elan_entries.specs.declared.found.Found.{Found}
+use Rattle.elan_entries.specs.declared.found.Entry.{Entry}
+use Rattle.elan_entries.specs.Found.{merged}
 use Rattle.elan_chart.specs.Chart.{run_or}
 
 -- whether what is read at a key is looked for

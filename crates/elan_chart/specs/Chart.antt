@@ -12,12 +12,13 @@ use Rattle.elan_program.specs.declared.signature.Operator.{Operator}
 use Rattle.elan_program.specs.declared.signature.Signature.{Signature}
 use Rattle.elan_reading.specs.declared.lexeme.Lexeme.{Lexeme}
 use Rattle.elan_reading.specs.declared.lexeme.Variable.{Variable}
-use Rattle.elan_chart.specs.declared.found.Key.TheVariants.{Rest}
-use Rattle.elan_chart.specs.declared.found.Found.TheVariants.{One}
-use Rattle.elan_chart.specs.declared.found.Entry.{Entry}
+use Rattle.elan_entries.specs.declared.found.Key.TheVariants.{Rest}
+use Rattle.elan_entries.specs.declared.found.Found.TheVariants.{One}
+use Rattle.elan_entries.specs.declared.found.Entry.{Entry}
 use Rattle.elan_chart.specs.declared.chart.Scope.{Scope as Borrowed}
-use Rattle.elan_chart.specs.Pieces.{is_sign, source, last_sort}
-use Rattle.elan_chart.specs.Found.{put_all}
+use Rattle.elan_entries.specs.Lexemes.{is_sign}
+use Rattle.elan_entries.specs.Pieces.{source, last_sort}
+use Rattle.elan_entries.specs.Found.{put_all}
 use Rattle.elan_chart.specs.Offers.{entry, word_offers, cut_offers, risen, last_offers, group_offers, integer_offers, token_offers}
 
 -- ---- operators by their numbers

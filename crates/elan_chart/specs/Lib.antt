@@ -1,11 +1,6 @@
-pub mod Trees
-pub mod Falls
-pub mod Pieces
-pub mod Found
 pub mod Offers
 pub mod Chart
 pub mod Answer
 pub mod Spans
-pub mod Sets
 pub mod Result
 pub mod Fitting

@@ -1,23 +1,23 @@
 -- The steps of a reading: what a run is read as, from what shorter runs are.
-use Rattle.std.specs.Prelude.{ℕ, ◌-◌, ℤ, pos, neg_ℤ, Bool, true, false, not, ◌&&◌, ◌==◌, if◌then◌else◌, nat_lt, Option, Some, None, List, [], ◌∷◌, ◌++◌, length, slice_get}
+use Rattle.std.specs.Prelude.{ℕ, ◌-◌, Bool, true, false, not, ◌&&◌, ◌==◌, if◌then◌else◌, nat_lt, Option, Some, None, List, [], ◌∷◌, ◌++◌, length, slice_get}
 use Rattle.std.specs.List.{flat_map}
 use Rattle.std.specs.Str.{bytes_eq}
 use Rattle.elan_terms.specs.declared.tree.OpId.{OpId}
 use Rattle.elan_terms.specs.declared.tree.SortId.{SortId}
 use Rattle.elan_program.specs.declared.signature.Operator.{Operator}
 use Rattle.elan_program.specs.declared.signature.Signature.{Signature}
-use Rattle.elan_lexer.specs.Bytes.{value}
 use Rattle.elan_reading.specs.declared.lexeme.Lexeme.{Lexeme}
 use Rattle.elan_reading.specs.declared.lexeme.Variable.{Variable}
-use Rattle.elan_chart.specs.declared.found.Key.{Key}
-use Rattle.elan_chart.specs.declared.found.Key.TheVariants.{Whole, Rest}
-use Rattle.elan_chart.specs.declared.found.Found.{Found}
-use Rattle.elan_chart.specs.declared.found.Found.TheVariants.{One}
-use Rattle.elan_chart.specs.declared.found.Entry.{Entry}
+use Rattle.elan_entries.specs.declared.found.Key.{Key}
+use Rattle.elan_entries.specs.declared.found.Key.TheVariants.{Whole, Rest}
+use Rattle.elan_entries.specs.declared.found.Found.{Found}
+use Rattle.elan_entries.specs.declared.found.Found.TheVariants.{One}
+use Rattle.elan_entries.specs.declared.found.Entry.{Entry}
 use Rattle.elan_program.specs.Extension.{var_pattern, int_pattern}
 use Rattle.elan_reading.specs.Edge.{is_injection, own_tie}
-use Rattle.elan_chart.specs.Pieces.{is_word_kind, is_number_kind, is_sign, is_word_at, fits_before, is_injection_from, takes_hole, fits_arg}
-use Rattle.elan_chart.specs.Found.{joined, applied}
+use Rattle.elan_entries.specs.Lexemes.{is_word_kind, is_number_kind, is_sign, integer}
+use Rattle.elan_entries.specs.Pieces.{is_word_at, fits_before, is_injection_from, takes_hole, fits_arg}
+use Rattle.elan_entries.specs.Found.{joined, applied}
 
 -- what is found at a key
 abbrev pub entry : Key → Found → Entry
@@ -174,10 +174,6 @@ variable_at variables place = variable_found (slice_get variables place)
 -- the variables of a word
 abbrev pub variable_offers : List Variable → Lexeme → List Entry
 variable_offers variables t = if is_word_kind t.kind then flat_map (variable_offer t.text) variables else []
-
--- the integer of these digits, or its negative
-abbrev pub integer : Bool → List ℕ → ℤ
-integer negative digits = if negative then neg_ℤ (pos (value digits)) else pos (value digits)
 
 -- an integer, where the token is a number and there are integers
 abbrev pub integer_offers : Option SortId → Bool → Lexeme → List Entry

@@ -6,8 +6,8 @@ use Rattle.elan_reading.specs.declared.lexeme.Lexeme.{Lexeme}
 use Rattle.elan_reading.specs.declared.lexeme.Variable.{Variable}
 use Rattle.elan_reading.specs.declared.sought.Sought.{Sought}
 use Rattle.elan_reading.specs.Answers.{IsOnly, HasNone, HasSeveral}
-use Rattle.elan_chart.specs.declared.found.Found.{Found}
-use Rattle.elan_chart.specs.declared.found.Found.TheVariants.{One, Several}
+use Rattle.elan_entries.specs.declared.found.Found.{Found}
+use Rattle.elan_entries.specs.declared.found.Found.TheVariants.{One, Several}
 
 -- nothing was collected where there is no reading, one tree where that is the only one, and several where there are two
 abbrev pub IsOutcome : Signature → List Variable → List Lexeme → Sought → Option Found → Type 0

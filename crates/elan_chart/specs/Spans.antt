@@ -8,12 +8,12 @@ use Rattle.elan_program.specs.declared.signature.Operator.{Operator}
 use Rattle.elan_program.specs.declared.signature.Signature.{Signature}
 use Rattle.elan_reading.specs.declared.lexeme.Lexeme.{Lexeme}
 use Rattle.elan_reading.specs.declared.lexeme.Variable.{Variable}
-use Rattle.elan_chart.specs.declared.found.Key.{Key}
-use Rattle.elan_chart.specs.declared.found.Key.TheVariants.{Whole, Rest}
+use Rattle.elan_entries.specs.declared.found.Key.{Key}
+use Rattle.elan_entries.specs.declared.found.Key.TheVariants.{Whole, Rest}
 use Rattle.elan_program.specs.Extension.{var_pattern, int_pattern, app_pattern}
 use Rattle.elan_reading.specs.Edge.{is_injection, own_tie}
-use Rattle.elan_chart.specs.Pieces.{fits_hole, is_word_kind, is_number_kind, is_sign, is_word_at, is_injection_from}
-use Rattle.elan_chart.specs.Offers.{integer}
+use Rattle.elan_entries.specs.Lexemes.{is_word_kind, is_number_kind, is_sign, integer}
+use Rattle.elan_entries.specs.Pieces.{fits_hole, is_word_at, is_injection_from}
 
 module _ (g : Signature) (vs : List Variable) (tokens : List Lexeme) where
   mutual

@@ -10,10 +10,10 @@ ghost use Rattle.elan_reading.specs.Lexemes.{lexeme_of, IsInRange};
 ghost use Rattle.elan_reading.specs.Answers.{IsOnly, IsRefused};
 
 use crate::chart::{Scope, rows};
-use crate::found::{Entry, Found, Key, merged};
-use crate::lexemes::lexemes;
 use crate::operators::{blank, ends_onto, injections_onto, lasts_onto};
-use crate::shared::{Tree, to_owned};
+use elan_entries::found::{Entry, Found, Key, merged};
+use elan_entries::lexemes::lexemes;
+use elan_entries::shared::{Tree, to_owned};
 use elan_lexer::Token;
 use elan_program::Signature;
 use elan_reading::{Lexeme, ReadingRefusal, Sought};

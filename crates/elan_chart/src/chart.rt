@@ -3,13 +3,13 @@
 ghost use Rattle.std.specs.Prelude.{◌≡◌, ◌<◌, ◌^◌, [], IfOk, slice_get};
 ghost use Rattle.std.specs.List.{All};
 ghost use Rattle.std.specs.Option.{option_copied};
-ghost use Rattle.elan_chart.specs.Found as found;
+ghost use Rattle.elan_entries.specs.Found as found;
 ghost use Rattle.elan_chart.specs.Chart as spec;
 ghost use Rattle.elan_reading.specs.Lexemes.{IsInRange};
 
-use crate::found::{Entry, put_all};
-use crate::lexemes::is_sign;
 use crate::offers::{put_cut, put_groups, put_integer, put_lasts, put_risen, put_token, put_words};
+use elan_entries::found::{Entry, put_all};
+use elan_entries::lexemes::is_sign;
 use elan_program::Signature;
 use elan_reading::Lexeme;
 use elan_terms::OpId;
@@ -153,7 +153,7 @@ fn put_framed(
 }
 
 /// What the next run of a row is read as, but for injections and last holes.
-#[tactic(auto, using(crate::proofs::PutLemmas::put_all_append))]
+#[tactic(auto, using(elan_entries::proofs::PutLemmas::put_all_append))]
 fn put_offers(
     alloc: Global,
     run: &mut Items<Entry>,

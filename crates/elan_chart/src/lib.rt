@@ -3,12 +3,8 @@
 
 mod answer;
 mod chart;
-mod found;
 pub mod laws;
-mod lexemes;
 mod offers;
 mod operators;
-mod pieces;
-mod shared;
 
 pub use answer::read;

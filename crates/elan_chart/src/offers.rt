@@ -6,13 +6,13 @@ ghost use Rattle.std.specs.List.{flat_map};
 ghost use Rattle.std.specs.Option.{option_copied};
 ghost use Rattle.elan_lexer.specs.Bytes.{value};
 ghost use Rattle.elan_reading.specs.Lexemes.{IsInRange};
-ghost use Rattle.elan_chart.specs.Found as found;
+ghost use Rattle.elan_entries.specs.Found as found;
 ghost use Rattle.elan_chart.specs.Offers as spec;
 
-use crate::found::{Entry, Found, Key, applied, is_settled, joined, one, put};
-use crate::lexemes::{integer, is_number, is_sign, is_word};
-use crate::pieces::{fits_arg, fits_before, is_injection_from, is_word_at, takes_hole};
-use crate::shared::Tree;
+use elan_entries::found::{Entry, Found, Key, applied, is_settled, joined, one, put};
+use elan_entries::lexemes::{integer, is_number, is_sign, is_word};
+use elan_entries::pieces::{fits_arg, fits_before, is_injection_from, is_word_at, takes_hole};
+use elan_entries::shared::Tree;
 use elan_program::{Operator, Signature};
 use elan_reading::{Lexeme, Variable, is_injection, tie};
 use elan_terms::{OpId, SortId};
@@ -120,7 +120,7 @@ fn advance(
 }
 
 /// Puts an operator from this piece on, with what is found.
-#[tactic(auto, using(crate::proofs::PutLemmas::joined_none))]
+#[tactic(auto, using(elan_entries::proofs::PutLemmas::joined_none))]
 fn advance_alone(
     alloc: Global,
     run: &mut Items<Entry>,
@@ -174,7 +174,7 @@ fn put_word(
     }
 }
 
-#[tactic(auto, using(crate::proofs::PutLemmas::put_all_append))]
+#[tactic(auto, using(elan_entries::proofs::PutLemmas::put_all_append))]
 pub(crate) fn put_words(
     alloc: Global,
     run: &mut Items<Entry>,
@@ -232,7 +232,7 @@ fn put_tree(
 }
 
 /// Each of these trees before an operator from a piece on.
-#[tactic(auto, using(crate::proofs::PutLemmas::put_all_append))]
+#[tactic(auto, using(elan_entries::proofs::PutLemmas::put_all_append))]
 fn put_trees(
     alloc: Global,
     run: &mut Items<Entry>,
@@ -293,7 +293,7 @@ fn put_rest(
 }
 
 /// A run that is cut in two.
-#[tactic(auto, using(crate::proofs::PutLemmas::put_all_append))]
+#[tactic(auto, using(elan_entries::proofs::PutLemmas::put_all_append))]
 pub(crate) fn put_cut(
     alloc: Global,
     run: &mut Items<Entry>,
@@ -336,7 +336,7 @@ fn put_injection(
     }
 }
 
-#[tactic(auto, using(crate::proofs::PutLemmas::put_all_append))]
+#[tactic(auto, using(elan_entries::proofs::PutLemmas::put_all_append))]
 fn put_injections(
     alloc: Global,
     run: &mut Items<Entry>,
@@ -386,7 +386,7 @@ fn put_risen_of(
 }
 
 /// All injections of a level.
-#[tactic(auto, using(crate::proofs::PutLemmas::put_all_append))]
+#[tactic(auto, using(elan_entries::proofs::PutLemmas::put_all_append))]
 pub(crate) fn put_risen(
     alloc: Global,
     run: &mut Items<Entry>,
@@ -432,7 +432,7 @@ fn put_last(
     }
 }
 
-#[tactic(auto, using(crate::proofs::PutLemmas::put_all_append))]
+#[tactic(auto, using(elan_entries::proofs::PutLemmas::put_all_append))]
 fn put_each_last(
     alloc: Global,
     run: &mut Items<Entry>,
@@ -471,7 +471,7 @@ fn put_lasts_of(
 }
 
 /// All that is read in the last holes of operators.
-#[tactic(auto, using(crate::proofs::PutLemmas::put_all_append))]
+#[tactic(auto, using(elan_entries::proofs::PutLemmas::put_all_append))]
 pub(crate) fn put_lasts(
     alloc: Global,
     run: &mut Items<Entry>,
@@ -505,7 +505,7 @@ fn put_group(alloc: Global, run: &mut Items<Entry>, inner: &Entry) -> Result<(),
     }
 }
 
-#[tactic(auto, using(crate::proofs::PutLemmas::put_all_append))]
+#[tactic(auto, using(elan_entries::proofs::PutLemmas::put_all_append))]
 fn put_each_group(alloc: Global, run: &mut Items<Entry>, inner: &[Entry]) -> Result<(), NoMemory>
     ensures { IfOk result (λ _. run.new ≡ found.put_all run.old (flat_map spec.group_offer
         inner.now)) }
@@ -556,7 +556,7 @@ fn put_variable(
 }
 
 /// The variables at these places.
-#[tactic(auto, using(crate::proofs::PutLemmas::put_all_append))]
+#[tactic(auto, using(elan_entries::proofs::PutLemmas::put_all_append))]
 fn put_places(
     alloc: Global,
     run: &mut Items<Entry>,
@@ -636,7 +636,7 @@ pub(crate) fn put_integer(
 }
 
 /// What one token is read as.
-#[tactic(auto, using(crate::proofs::PutLemmas::put_all_append))]
+#[tactic(auto, using(elan_entries::proofs::PutLemmas::put_all_append))]
 pub(crate) fn put_token(
     alloc: Global,
     run: &mut Items<Entry>,

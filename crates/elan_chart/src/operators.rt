@@ -4,12 +4,12 @@
 ghost use Rattle.std.specs.Prelude.{◌≡◌, ◌<◌, ◌+◌, ◌^◌, ◌++◌, IfOk, length};
 ghost use Rattle.std.specs.List.{list_all, list_any};
 ghost use Rattle.std.specs.Str.{bytes_eq};
-ghost use Rattle.elan_chart.specs.Pieces as pieces;
+ghost use Rattle.elan_entries.specs.Pieces as pieces;
 ghost use Rattle.elan_chart.specs.Chart as spec;
 
-use crate::found::{Entry, Found, Key};
-use crate::lexemes::is_same;
-use crate::pieces::{last_sort, source};
+use elan_entries::found::{Entry, Found, Key};
+use elan_entries::lexemes::is_same;
+use elan_entries::pieces::{last_sort, source};
 use elan_program::{Operator, Piece};
 use elan_reading::Lexeme;
 use elan_terms::{OpId, SortId};

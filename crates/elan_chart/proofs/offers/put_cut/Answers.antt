@@ -1,8 +1,8 @@
 use Rattle.std.specs.List.{flat_map}
 use Rattle.std.specs.Option.{option_copied}
-use Rattle.elan_chart.specs.Found.{put_all}
+use Rattle.elan_entries.specs.Found.{put_all}
 use Rattle.elan_chart.specs.Offers as spec
-use Rattle.elan_chart.proofs.PutLemmas.{put_item}
+use Rattle.elan_entries.proofs.PutLemmas.{put_item}
 use Rattle.elan_chart.proofs.offers.put_cut.Goals as goal
 
 pub loop-rest-preserved : goal.loop-rest-preserved

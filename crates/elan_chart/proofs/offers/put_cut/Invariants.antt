@@ -1,7 +1,7 @@
 use Rattle.std.proofs.Common.{◌≡◌, drop}
 use Rattle.std.specs.List.{flat_map}
 use Rattle.std.specs.Option.{option_copied}
-use Rattle.elan_chart.specs.Found.{put_all}
+use Rattle.elan_entries.specs.Found.{put_all}
 use Rattle.elan_chart.specs.Offers as spec
 use Rattle.elan_chart.proofs.offers.put_cut.Given as goal
 

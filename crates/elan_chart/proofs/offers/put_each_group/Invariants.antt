@@ -1,6 +1,6 @@
 use Rattle.std.proofs.Common.{◌≡◌, drop}
 use Rattle.std.specs.List.{flat_map}
-use Rattle.elan_chart.specs.Found.{put_all}
+use Rattle.elan_entries.specs.Found.{put_all}
 use Rattle.elan_chart.specs.Offers as spec
 use Rattle.elan_chart.proofs.offers.put_each_group.Given as goal
 

@@ -1,7 +1,7 @@
 use Rattle.std.proofs.Common.{◌≡◌, true}
-use Rattle.elan_chart.specs.Found as found
+use Rattle.elan_entries.specs.Found as found
 use Rattle.elan_chart.specs.Offers.{entry}
-use Rattle.elan_chart.proofs.PutLemmas.{settled_put}
+use Rattle.elan_entries.proofs.PutLemmas.{settled_put}
 use Rattle.elan_chart.proofs.offers.put_joined.Goals as goal
 
 pub returns-then-is_settled : goal.returns-then-is_settled

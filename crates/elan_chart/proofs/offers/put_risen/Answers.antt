@@ -1,7 +1,7 @@
 use Rattle.std.specs.List.{flat_map}
-use Rattle.elan_chart.specs.Found.{put_all}
+use Rattle.elan_entries.specs.Found.{put_all}
 use Rattle.elan_chart.specs.Offers as spec
-use Rattle.elan_chart.proofs.PutLemmas.{put_item}
+use Rattle.elan_entries.proofs.PutLemmas.{put_item}
 use Rattle.elan_chart.proofs.offers.put_risen.Goals as goal
 
 pub loop-whole-preserved : goal.loop-whole-preserved

@@ -1,5 +1,5 @@
 use Rattle.std.proofs.Common.{◌≡◌, ◌+◌, drop, length}
-use Rattle.elan_chart.specs.Pieces.{source}
+use Rattle.elan_entries.specs.Pieces.{source}
 use Rattle.elan_chart.specs.Chart.{by_sort}
 use Rattle.elan_chart.proofs.operators.injections_onto.Given as goal
 

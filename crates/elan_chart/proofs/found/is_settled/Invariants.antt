@@ -1,6 +1,0 @@
-use Rattle.std.proofs.Common.{◌≡◌, drop}
-use Rattle.elan_chart.specs.Found as spec
-use Rattle.elan_chart.proofs.found.is_settled.Given as goal
-
-abbrev pub invariant-loop-entry : goal.invariant-loop-entry
-invariant-loop-entry l = spec.is_settled (drop l.entry-index l.entries) l.key ≡ spec.is_settled l.entries l.key

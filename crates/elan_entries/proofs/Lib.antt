@@ -1,0 +1,5 @@
+pub mod Digits
+pub mod SameLemmas
+pub mod NodeLemmas
+pub mod FoundLemmas
+pub mod PutLemmas

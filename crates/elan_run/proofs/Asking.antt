@@ -3,17 +3,20 @@ use Rattle.std.proofs.Common.{◌≡◌, ◌≤◌, ◌⊎◌, inl, inr, ℕ, fa
 use Rattle.elan_text.specs.declared.refusal.Refusal.{Refusal}
 use Rattle.elan_text.specs.declared.refusal.Code.{Code}
 use Rattle.elan_text.specs.declared.refusal.Place.{Place}
+use Rattle.elan_text.specs.declared.refusal.Stop.{Stop}
+use Rattle.elan_text.specs.declared.refusal.Stop.TheVariants as stop
 use Rattle.elan_lexer.specs.declared.token.Token.{Token}
-use Rattle.elan_lexer.specs.Text.{Fits, Refuses as RefusesToken}
+use Rattle.elan_lexer.specs.Text.{Fits, Refuses as RefusesToken, IsRefusal as IsTokenRefusal}
 use Rattle.elan_phrases.specs.Symbols.{seen}
 use Rattle.elan_syntax.specs.declared.parts.Outline.{Outline}
-use Rattle.elan_syntax.specs.Outlines.{IsOutline}
+use Rattle.elan_syntax.specs.Grammar.{stream}
+use Rattle.elan_syntax.specs.Outlines.{IsOutline, Refuses as RefusesOutline, IsRefusal as IsOutlineRefusal}
 use Rattle.elan_loaders.specs.Libraries.{Library as Texts, NoneFell}
 use Rattle.elan_modules.specs.declared.flat.FlattenRefusal.{FlattenRefusal}
 use Rattle.elan_modules.specs.declared.flat.FlattenRefusal.TheVariants.{Refused, LoaderFault, NoMemory}
 use Rattle.elan_modules.specs.Loads.{itself}
 use Rattle.elan_modules.specs.Visits.{Library, Halted, Refuses, Silent, needs_loaders}
-use Rattle.elan_modules.specs.Walks.{Shelf, Comes, Moved, Untouched}
+use Rattle.elan_modules.specs.Walks.{Shelf, Comes, Moved, Untouched, nothing}
 use Rattle.elan_check.specs.declared.prepared.Prepared.{Prepared}
 use Rattle.elan_cli.specs.declared.given.Options.{Options}
 use Rattle.elan_run.specs.declared.answer.Answer.{Answer}
@@ -33,6 +36,39 @@ not_moved s = record { told = refl; misses = none_fell s.misses; failures = none
 
 pub not_touched : (s : Shelf) → Untouched s s
 not_touched s = record { misses = refl; failures = refl }
+
+-- ---- refusals of tokens and outlines
+
+-- the refusal that is answered is right
+pub refused_tokens : (bytes : List ℕ) (s : Stop) (r : Refusal) → IsTokenRefusal bytes s → s ≡ stop.Refused r
+    → RefusesToken bytes r.code r.at
+refused_tokens bytes s r is e = (subst (IsTokenRefusal bytes) e is).0
+
+pub refused_outline : (bytes : List ℕ) (tokens : List Token) (s : Stop) (r : Refusal)
+    → IsOutlineRefusal stream bytes tokens s → s ≡ stop.Refused r → RefusesOutline bytes tokens r.code r.at
+refused_outline bytes tokens s r is e = (subst (IsOutlineRefusal stream bytes tokens) e is).0
+
+pub token_reported : {E : Type 0} (chosen : Options) (told : List (Option Texts)) (bytes : List ℕ) (code : Code) (at : Place) (made : Result Answer E)
+    → length bytes ≤ most_bytes → RefusesToken bytes code at → IfOk made (λ a. Says (BadToken code at) a.text.items a.status)
+    → IfOk made (λ a. IsReportFor (Some chosen) told bytes a.text.items a.status)
+token_reported chosen told bytes code at (Ok a) within refuses says = record {
+  verdict = BadToken code at;
+  says = says;
+  applies = λ library stands. inl (tt, within, refuses);
+  answered = (nothing, λ name. tt, (tt, within, refuses));
+}
+token_reported chosen told bytes code at (Err e) within refuses says = tt
+
+pub outline_reported : {E : Type 0} (chosen : Options) (told : List (Option Texts)) (bytes : List ℕ) (code : Code) (at : Place) (made : Result Answer E)
+    → length bytes ≤ most_bytes → LacksOutline bytes code at → IfOk made (λ a. Says (BadOutline code at) a.text.items a.status)
+    → IfOk made (λ a. IsReportFor (Some chosen) told bytes a.text.items a.status)
+outline_reported chosen told bytes code at (Ok a) within lacks says = record {
+  verdict = BadOutline code at;
+  says = says;
+  applies = λ library stands. inl (tt, within, lacks);
+  answered = (nothing, λ name. tt, (tt, within, lacks));
+}
+outline_reported chosen told bytes code at (Err e) within lacks says = tt
 
 -- ---- what a stream asks
 
@@ -64,15 +100,23 @@ module _ (chosen : Options) (bytes : List ℕ) (tokens : List Token) (outline : 
       → IfOk made (λ a. IsReportFor (Some chosen) s.told bytes a.text.items a.status)
   reported s t (Ok p) (Ok a) tells says = record {
     verdict = Accepted chosen p;
-    suits = refl;
     says = says;
     applies = λ library stands. accepted_over library p (asked_of library bytes tokens outline) refl (over s t (Ok p) tells library stands);
+    answered = (
+      tells.answered.0,
+      tells.answered.1,
+      (refl, within, (tokens, outline, fits, outlined, tells.answered.2)),
+    );
   }
   reported s t (Err (Refused r)) (Ok a) tells says = record {
     verdict = BadProgram r;
-    suits = tt;
     says = says;
     applies = λ library stands. refused_over library r (asked_of library bytes tokens outline) refl (over s t (Err (Refused r)) tells library stands);
+    answered = (
+      tells.answered.0,
+      tells.answered.1,
+      (tt, within, (tokens, outline, fits, outlined, tells.answered.2)),
+    );
   }
   reported s t (Err LoaderFault) (Ok a) tells says = absurd says
   reported s t (Err NoMemory) (Ok a) tells says = absurd says

@@ -9,7 +9,7 @@ use Rattle.elan_check.specs.declared.prepared.Prepared.{Prepared}
 use Rattle.elan_cli.specs.declared.given.Options.{Options}
 use Rattle.elan_run.specs.declared.status.Status.{Status}
 use Rattle.elan_run.specs.declared.status.Status.TheVariants as status
-use Rattle.elan_run.specs.Verdict.{AreAccepted, Suits, IsRead, input_with, input_of, Verdict, Misused, TooLong, BadToken, BadOutline, BadProgram, Accepted, IsVerdict, IsSilent, IsReport, IsReportFor, StandsFor, text_for, status_for}
+use Rattle.elan_run.specs.Verdict.{AreAccepted, IsRead, input_with, input_of, Verdict, Misused, TooLong, BadToken, BadOutline, BadProgram, Accepted, IsVerdict, IsSilent, IsReport, IsReportFor, StandsFor, text_for, status_for}
 use Rattle.elan_run.specs.Runs.{Reading, Writing, ReadFailed, LoadFailed, WriteFailed, Told, MayFeedWith, MayFeed, FeedsWith, Feeds, Answers, BreaksOff, Completes, Headline, Leaves}
 use Rattle.elan_run.proofs.Verdicts.{one_report, told_once}
 
@@ -56,18 +56,6 @@ refused_is library input (Accepted o p) applies = no_options applies.0
     no_options : {X : Type 0} → None ≡ Some o → X
     no_options e = absurd cc
 
--- so has a report of them for the loaders
-refused_for : (v : Verdict) → Suits None v → v ≡ Misused
-refused_for Misused suits = refl
-refused_for TooLong suits = absurd suits
-refused_for (BadToken code at) suits = absurd suits
-refused_for (BadOutline code at) suits = absurd suits
-refused_for (BadProgram refusal) suits = absurd suits
-refused_for (Accepted o p) suits = no_options suits
-  where
-    no_options : {X : Type 0} → None ≡ Some o → X
-    no_options e = absurd cc
-
 -- two reports on what a source had left are one
 same_report : (chosen : Option Options) (left : Option (List ℕ)) (told : List (Option Texts)) (bytes other : List ℕ) (library : Library)
     (text written : List ℕ) (answer result : Status) → Feeds chosen left bytes → MayFeed chosen left other
@@ -76,7 +64,8 @@ same_report : (chosen : Option Options) (left : Option (List ℕ)) (told : List 
     → (text ≡ written) × (answer ≡ result)
 same_report None left told bytes other library text written answer result is is_left stands report found =
     let same : report.verdict ≡ found.verdict =
-    refused_is library bytes report.verdict report.applies ∙ sym (refused_for found.verdict found.suits) in (
+    refused_is library bytes report.verdict report.applies
+    ∙ sym (refused_is found.answered.0 other found.verdict found.answered.2) in (
       report.says.text_is ∙ ap text_for same ∙ sym found.says.text_is,
       report.says.answer_is ∙ ap status_for same ∙ sym found.says.answer_is,
     )
@@ -161,7 +150,7 @@ module _ (chosen : Option Options) (r : Reading) (s t : Shelf) (w : Writing) whe
   -- words that are refused are answered by the usage line alone
   used : (c : Option Options) (result : Status) → c ≡ None → Answers c r.left s.told w.before w.after result → result ≡ status.Usage
   used None result none a =
-      a.report.says.answer_is ∙ ap status_for (refused_for a.report.verdict a.report.suits)
+      a.report.says.answer_is ∙ ap status_for (refused_is a.report.answered.0 a.bytes a.report.verdict a.report.answered.2)
   used (Some o) result none a = absurd cc
 
   unread : {X : Type 0} (c : Option Options) → c ≡ None → IsRead c → X

@@ -3,7 +3,8 @@ use Rattle.std.proofs.Common.{◌≡◌, ◌<◌, inl, inr, ℕ, true, cond, is_
 use Rattle.elan_text.specs.Streams.{IsAtEnd}
 use Rattle.elan_text.specs.Whole.{Drained, PastMost}
 use Rattle.elan_loaders.specs.Libraries.{Library as Texts}
-use Rattle.elan_modules.specs.Walks.{Shelf, Moved}
+use Rattle.elan_modules.specs.Visits.{Library}
+use Rattle.elan_modules.specs.Walks.{Shelf, Moved, nothing}
 use Rattle.elan_cli.specs.declared.given.Options.{Options}
 use Rattle.elan_run.specs.declared.answer.Answer.{Answer}
 use Rattle.elan_run.specs.declared.answer.Unanswered.{Unanswered}
@@ -15,7 +16,7 @@ use Rattle.elan_cli.specs.Words.{Word}
 use Rattle.elan_cli.specs.declared.fault.WordsRefusal.{WordsRefusal}
 use Rattle.elan_demo.specs.Demo.{demo_input}
 use Rattle.elan_run.specs.Lines.{usage_line}
-use Rattle.elan_run.specs.Verdict.{chosen_by, AreAccepted, Suits, IsRead, IsReadWith, input_with, input_of, most_bytes, NeedsNone, NeedsSome, Verdict, Misused, TooLong, BadToken, BadOutline, BadProgram, Accepted, IsReportFor, Says, status_for}
+use Rattle.elan_run.specs.Verdict.{chosen_by, AreAccepted, IsRead, IsReadWith, input_with, input_of, most_bytes, NeedsNone, NeedsSome, Verdict, Misused, TooLong, BadToken, BadOutline, BadProgram, Accepted, IsVerdict, IsReportFor, Says, status_for}
 use Rattle.elan_run.specs.Runs.{Reading, Writing, Told, MayFeedWith, MayFeed, FeedsWith, Feeds, Answers, BreaksOff, Sends, Finishes, IsWhy, Leaves}
 use Rattle.elan_run.proofs.Causes.{told_is}
 
@@ -67,16 +68,17 @@ not_read None number is read = absurd cc
 not_read (Some other) number is read = absurd read
 
 -- words that are accepted are not misused
-not_misused : (o : Options) (v : Verdict) → Suits (Some o) v → status_for v ≡ status.Usage → ⊥
-not_misused o Misused suits e = no_options suits
+not_misused : (o : Options) (library : Library) (input : List ℕ) (v : Verdict) → IsVerdict (Some o) library input v
+    → status_for v ≡ status.Usage → ⊥
+not_misused o library input Misused applies e = no_options applies
   where
     no_options : Some o ≡ None → ⊥
     no_options a = cc
-not_misused o TooLong suits e = cc
-not_misused o (BadToken code at) suits e = cc
-not_misused o (BadOutline code at) suits e = cc
-not_misused o (BadProgram refusal) suits e = cc
-not_misused o (Accepted q p) suits e = cc
+not_misused o library input TooLong applies e = cc
+not_misused o library input (BadToken code at) applies e = cc
+not_misused o library input (BadOutline code at) applies e = cc
+not_misused o library input (BadProgram refusal) applies e = cc
+not_misused o library input (Accepted q p) applies e = cc
 
 module _ (chosen : Option Options) (r : Reading) (s t : Shelf) (w : Writing) where
   -- an answer of a verdict is left as such; only words that are refused are answered by the usage line
@@ -117,7 +119,8 @@ module _ (o : Options) (r : Reading) (s t : Shelf) (w : Writing) where
       → IfOk made (λ a. a.status ≡ status.Done → IsReadWith o.demo → IsAtEnd r.past) → Finishes w made result
       → Leaves (Some o) r s t w result
   leaves_finished bytes (Ok a) result fed report why end sent =
-      let no : a.status ≡ status.Usage → ⊥ = λ e. not_misused o report.verdict report.suits (sym report.says.answer_is ∙ e) in
+      let no : a.status ≡ status.Usage → ⊥ = λ e.
+      not_misused o report.answered.0 (input_with o.demo bytes) report.verdict report.answered.2 (sym report.says.answer_is ∙ e) in
       leaves_sent (Some o) r s t w bytes a.text.items a.status result fed report (λ e. absurd (no e)) end sent
   leaves_finished bytes (Err unanswered.LoaderFault) result fed report why end sent =
       let P : Status → Type 0 = Leaves (Some o) r s t w in
@@ -171,7 +174,12 @@ pub too_long_reported : (o : Options) (told : List (Option Texts)) (bytes : List
     → most_bytes < length bytes → IfOk made (λ a. Says TooLong a.text.items a.status)
     → IfOk made (λ a. IsReportFor (Some o) told bytes a.text.items a.status)
 too_long_reported o told bytes (Ok a) long says =
-    record { verdict = TooLong; suits = tt; says = says; applies = λ library stands. inl (tt, long) }
+    record {
+      verdict = TooLong;
+      says = says;
+      applies = λ library stands. inl (tt, long);
+      answered = (nothing, λ name. tt, (tt, long));
+    }
 too_long_reported o told bytes (Err e) long says = tt
 
 -- and for want of memory nothing was made
@@ -199,9 +207,9 @@ usage_reported : (chosen : Option Options) (told : List (Option Texts)) (input :
     → IsReportFor chosen told input usage_line status.Usage
 usage_reported chosen told input none = record {
   verdict = Misused;
-  suits = none;
   says = record { text_is = refl; answer_is = refl };
   applies = λ library stands. inl none;
+  answered = (nothing, λ name. tt, none);
 }
 
 fed_refused : (chosen : Option Options) (left : Option (List ℕ)) (bytes : List ℕ) → chosen ≡ None → MayFeed chosen left bytes

@@ -1,5 +1,6 @@
 -- What a stream asks comes from its flat program.
-use Rattle.std.proofs.Common.{◌≡◌, ℕ, false, true, Bool, List, Result, Ok, Err, refl, sym, subst}
+use Rattle.std.proofs.Common.{◌≡◌, ℕ, false, true, Bool, List, Result, Ok, Err, refl, sym, ap, subst}
+use Rattle.elan_text.specs.declared.refusal.Refusal.{Refusal}
 use Rattle.elan_lexer.specs.declared.token.Token.{Token}
 use Rattle.elan_syntax.specs.declared.parts.Outline.{Outline}
 use Rattle.elan_loaders.specs.Libraries.{SomeRose}
@@ -7,10 +8,10 @@ use Rattle.elan_names.specs.Resolved.{next}
 use Rattle.elan_modules.specs.declared.flat.Flat.{Flat}
 use Rattle.elan_modules.specs.declared.flat.FlattenRefusal.{FlattenRefusal}
 use Rattle.elan_modules.specs.declared.flat.FlattenRefusal.TheVariants.{Refused, LoaderFault, NoMemory}
-use Rattle.elan_modules.specs.Flattens.{Gives}
+use Rattle.elan_modules.specs.Flattens.{Gives, StopsAt}
 use Rattle.elan_modules.specs.Loads.{itself}
 use Rattle.elan_modules.specs.Visits.{Library, Halted, Refuses, Silent, flat_program, needs_loaders, nobody}
-use Rattle.elan_modules.specs.Walks.{Shelf, IsSound, Comes, is_fault}
+use Rattle.elan_modules.specs.Walks.{Shelf, IsSound, IsAnswer, Comes, is_fault}
 use Rattle.elan_check.specs.declared.prepared.Prepared.{Prepared}
 use Rattle.elan_run.specs.Asked.{Tells, IsPreparedIn}
 use Rattle.elan_run.specs.Verdict.{asked_of, prepared_of, or_halted}
@@ -46,6 +47,29 @@ stopped (Refused r) (Err Silent) is = tt
 stopped LoaderFault d is = tt
 stopped NoMemory d is = tt
 
+-- what is asked of a flat program is answered so
+stops_prepared : (result : Result Prepared FlattenRefusal) (x : Result Prepared Refusal) → Comes itself result (or_halted x)
+    → is_fault result ≡ false → StopsAt result (or_halted x)
+stops_prepared (Ok p) (Ok q) is none = ap Ok is
+stops_prepared (Ok p) (Err r) is none = absurd is
+stops_prepared (Err (Refused r)) (Ok q) is none = absurd is
+stops_prepared (Err (Refused r)) (Err s) is none = ap (λ z. Err (Refuses z)) is
+stops_prepared (Err LoaderFault) x is none = absurd cc
+stops_prepared (Err NoMemory) x is none = tt
+
+stops_on : (flat : Flat) (result : Result Prepared FlattenRefusal) (d : Result Flat Halted) → d ≡ Ok flat
+    → StopsAt result (or_halted (prepared_of flat)) → StopsAt result (next d (λ f. or_halted (prepared_of f)))
+stops_on flat result d is stops =
+    let P : Result Flat Halted → Type 0 = λ x. StopsAt result (next x (λ f. or_halted (prepared_of f))) in
+    subst P (sym is) stops
+
+-- what stops before that stops there
+stops_off : (why : FlattenRefusal) (d : Result Flat Halted) → StopsAt {A = Flat} (Err why) d
+    → StopsAt {A = Prepared} (Err why) (next d (λ f. or_halted (prepared_of f)))
+stops_off (Refused r) d is = subst (λ x. next x (λ f. or_halted (prepared_of f)) ≡ Err (Refuses r)) (sym is) refl
+stops_off LoaderFault d is = subst (λ x. next x (λ f. or_halted (prepared_of f)) ≡ Err Silent) (sym is) refl
+stops_off NoMemory d is = tt
+
 same_fault : (why : FlattenRefusal) → is_fault {V = Prepared} (Err why) ≡ true → is_fault {V = Flat} (Err why) ≡ true
 same_fault (Refused r) e = e
 same_fault LoaderFault e = e
@@ -56,7 +80,8 @@ no_fault b f t = absurd cc
 
 module _ (bytes : List ℕ) (tokens : List Token) (outline : Outline) (s t : Shelf) (flattened : Result Flat FlattenRefusal)
     (sound : (library : Library) → IsSound library s.told → Comes itself flattened (flat_program library bytes tokens outline))
-    (alone : needs_loaders bytes tokens outline ≡ false → Gives flattened (flat_program nobody bytes tokens outline)) where
+    (alone : needs_loaders bytes tokens outline ≡ false → Gives flattened (flat_program nobody bytes tokens outline))
+    (answered : (said : Library) × IsAnswer s.told said × StopsAt flattened (flat_program said bytes tokens outline)) where
   pub tells_on : (flat : Flat) (result : Result Prepared FlattenRefusal) → flattened ≡ Ok flat → IsPreparedIn flat result
       → Tells bytes tokens outline s t result
   unfolding asked_of
@@ -67,6 +92,13 @@ module _ (bytes : List ℕ) (tokens : List Token) (outline : Outline) (s t : She
             (subst (λ f. P f library) e (sound library is)) prepared.comes;
         alone = λ none. went_on flat result (flat_program nobody bytes tokens outline)
             (subst (λ f. P f nobody) e (comes_gives flattened (flat_program nobody bytes tokens outline) (alone none))) prepared.comes;
+        answered = (
+          answered.0,
+          answered.1,
+          stops_on flat result (flat_program answered.0 bytes tokens outline)
+              (subst (λ f. StopsAt f (flat_program answered.0 bytes tokens outline)) e answered.2)
+              (stops_prepared result (prepared_of flat) prepared.comes prepared.fault),
+        );
         fault = λ f. no_fault (is_fault result) prepared.fault f;
         needed = λ f. no_fault (is_fault result) prepared.fault f;
       }
@@ -83,6 +115,12 @@ module _ (bytes : List ℕ) (tokens : List Token) (outline : Outline) (s t : She
         comes = λ library is. stopped why (flat_program library bytes tokens outline) (subst (λ f. P f library) e (sound library is));
         alone = λ none. stopped why (flat_program nobody bytes tokens outline)
             (subst (λ f. P f nobody) e (comes_gives flattened (flat_program nobody bytes tokens outline) (alone none)));
+        answered = (
+          answered.0,
+          answered.1,
+          stops_off why (flat_program answered.0 bytes tokens outline)
+              (subst (λ f. StopsAt f (flat_program answered.0 bytes tokens outline)) e answered.2),
+        );
         fault = λ f. fault (subst F (sym e) (same_fault why f));
         needed = λ f. needed (subst F (sym e) (same_fault why f));
       }

@@ -7,7 +7,8 @@ use Rattle.elan_modules.specs.declared.flat.Flat.{Flat}
 use Rattle.elan_modules.specs.declared.flat.FlattenRefusal.{FlattenRefusal}
 use Rattle.elan_modules.specs.declared.flat.FlattenRefusal.TheVariants.{Refused, LoaderFault, NoMemory}
 use Rattle.elan_modules.specs.Visits.{Library, needs_loaders, nobody}
-use Rattle.elan_modules.specs.Walks.{Shelf, IsSound, Comes, is_fault}
+use Rattle.elan_modules.specs.Flattens.{StopsAt}
+use Rattle.elan_modules.specs.Walks.{Shelf, IsSound, IsAnswer, Comes, is_fault}
 use Rattle.elan_modules.specs.Loads.{itself}
 use Rattle.elan_check.specs.declared.prepared.Prepared.{Prepared}
 use Rattle.elan_check.specs.Validity.{IsPrepared}
@@ -24,6 +25,9 @@ pub record Tells (bytes : List ℕ) (tokens : List Token) (outline : Outline) (b
   pub comes : (library : Library) → IsSound library before.told → Comes itself result (asked_of library bytes tokens outline)
   -- where the stream needs no loaders, it comes to what is asked over none
   pub alone : needs_loaders bytes tokens outline ≡ false → Comes itself result (asked_of nobody bytes tokens outline)
+  -- it is what is asked over some library that says what the loaders can have answered; or a loader failed, or memory was
+  -- wanted
+  pub answered : (library : Library) × IsAnswer before.told library × StopsAt result (asked_of library bytes tokens outline)
   -- a loader fails only where a count of faults rose and the stream needs loaders
   pub fault : is_fault result ≡ true → SomeRose before.failures after.failures
   pub needed : is_fault result ≡ true → needs_loaders bytes tokens outline ≡ true

@@ -15,7 +15,7 @@ use Rattle.elan_syntax.specs.Outlines.{IsOutline, Refuses as RefusesOutline}
 use Rattle.elan_loaders.specs.Libraries.{Library as Texts}
 use Rattle.elan_modules.specs.declared.flat.Flat.{Flat}
 use Rattle.elan_modules.specs.Visits.{Library, Halted, Refuses, Silent, flat_program, needs_loaders, nobody}
-use Rattle.elan_modules.specs.Walks.{IsSound}
+use Rattle.elan_modules.specs.Walks.{IsSound, IsAnswer}
 use Rattle.elan_signature.specs.Whole.{signature_of}
 use Rattle.elan_names.specs.Resolved.{next}
 use Rattle.elan_check.specs.declared.prepared.Prepared.{Prepared}
@@ -147,15 +147,6 @@ IsVerdict chosen library input (BadProgram refusal) =
 IsVerdict chosen library input (Accepted o p) =
     (chosen ≡ Some o) × (length input ≤ most_bytes) × Asks library input (Ok p)
 
--- the verdict is one of words that choose this
-abbrev pub Suits : Option Options → Verdict → Type 0
-Suits chosen Misused = chosen ≡ None
-Suits chosen TooLong = AreAccepted chosen
-Suits chosen (BadToken code at) = AreAccepted chosen
-Suits chosen (BadOutline code at) = AreAccepted chosen
-Suits chosen (BadProgram refusal) = AreAccepted chosen
-Suits chosen (Accepted o p) = chosen ≡ Some o
-
 -- there is no verdict, since the input comes to a name of which nothing is told
 abbrev pub IsSilent : Option Options → Library → List ℕ → Type 0
 IsSilent chosen library input = AreAccepted chosen × (length input ≤ most_bytes) × Asks library input (Err Silent)
@@ -193,12 +184,12 @@ pub record IsReport (chosen : Option Options) (library : Library) (input text : 
   pub applies : IsVerdict chosen library input verdict
   pub says : Says verdict text answer
 
--- The text and the status are those of a verdict of such words, and this is the verdict over each library that may be taken
--- for the loaders, where that tells enough.
+-- The text and the status are those of a verdict. This is the verdict over each library that may be taken for the loaders,
+-- where that tells enough; and it is the verdict over some library that says what the loaders can have answered.
 pub record IsReportFor (chosen : Option Options) (told : List (Option Texts)) (input text : List ℕ) (answer : Status)
     : Type 0 where
   pub verdict : Verdict
-  pub suits : Suits chosen verdict
   pub says : Says verdict text answer
   pub applies : (library : Library) → StandsFor told input library
       → IsVerdict chosen library input verdict ⊎ IsSilent chosen library input
+  pub answered : (library : Library) × IsAnswer told library × IsVerdict chosen library input verdict

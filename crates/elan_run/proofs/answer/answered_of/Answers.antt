@@ -1,4 +1,6 @@
-use Rattle.elan_run.proofs.Asking.{not_moved, reported, told_why}
+use Rattle.std.proofs.Common.{Ok}
+use Rattle.elan_run.proofs.Asking.{not_moved, reported, told_why, outline_reported, refused_outline}
+use Rattle.elan_run.specs.declared.answer.Unanswered.{Unanswered}
 use Rattle.elan_run.proofs.answer.answered_of.Goals as goal
 
 pub returns-in-Ok-clause-report : goal.returns-in-Ok-clause-report
@@ -21,3 +23,13 @@ returns-in_ok-unread-in-Err-Refused-clause-moved g c = not_moved _
 
 pub returns-in-Err-NoMemory-clause-moved : goal.returns-in-Err-NoMemory-clause-moved
 returns-in-Err-NoMemory-clause-moved g c = not_moved _
+
+pub returns-in_ok-unread-in-Err-Refused-clause-report :
+    goal.returns-in_ok-unread-in-Err-Refused-clause-report
+returns-in_ok-unread-in-Err-Refused-clause-report g c =
+    outline_reported {E = Unanswered} _ _ _ _ _ (Ok c.in_ok-unread-in-Err-Refused.field-0) c.requires.within (
+      c.args.found.now,
+      c.requires.fits,
+      refused_outline _ _ _ _ c.in-Err-Refused.ensures.refused c.in-Err-Refused.field-0-is,
+    )
+    c.in_ok-unread-in-Err-Refused.ensures

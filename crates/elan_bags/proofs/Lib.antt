@@ -1,0 +1,9 @@
+pub mod TimesLemmas
+pub mod MinusLemmas
+pub mod ExceptLemmas
+pub mod ManyLemmas
+pub mod OverLemmas
+pub mod ChoiceLemmas
+pub mod AboveLemmas
+pub mod RowLemmas
+pub mod LawLemmas

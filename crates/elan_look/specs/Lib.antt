@@ -1,0 +1,5 @@
+pub mod Lows
+pub mod Sights
+pub mod Tells
+pub mod Nodes
+pub mod Aims

@@ -1,0 +1,4 @@
+pub mod PlaceLemmas
+pub mod StepLemmas
+pub mod OwedLemmas
+pub mod SearchLemmas

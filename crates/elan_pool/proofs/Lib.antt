@@ -1,0 +1,6 @@
+mod Balances
+mod Growing
+mod Places
+mod Makings
+mod Sums
+mod Taken

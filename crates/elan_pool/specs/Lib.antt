@@ -1,0 +1,9 @@
+pub mod Balance
+pub mod Names
+pub mod Deques
+pub mod Taking
+pub mod Sides
+pub mod Seats
+pub mod Making
+pub mod Closing
+pub mod Lines

@@ -6,8 +6,6 @@ mod choice;
 mod copies;
 mod cut;
 mod laws;
-#[cfg(test)]
-mod tests;
 
 pub use bag::{except, is_among, minus, over};
 pub use choice::{above, first_of};

@@ -1,17 +1,15 @@
 -- Counting patterns one after the other.
-use Rattle.std.proofs.Common.{◌≡◌, refl, sym, ap, ◌∙◌, subst, ℕ, ◌+◌, ◌≤◌, ◌==◌, Bool, true, false, cond, not, List, [], ◌∷◌, ◌++◌, length, filter, get_or, arith}
+use Rattle.std.proofs.Common.{◌≡◌, refl, sym, ap, ◌∙◌, ℕ, ◌+◌, ◌≤◌, ◌==◌, Bool, true, false, cond, not, List, [], ◌∷◌, ◌++◌, length, filter, get_or, arith}
 use Rattle.elan_terms.specs.declared.tree.OpId.{OpId}
 use Rattle.elan_terms.specs.declared.tree.SortId.{SortId}
 use Rattle.elan_terms.specs.declared.tree.Pattern.{Pattern}
 use Rattle.elan_terms.specs.declared.tree.PatternNode as pattern
-use Rattle.elan_terms.proofs.Sorting.{not_true}
-use Rattle.elan_arms.specs.Arms.{app_pattern, apart_node, taken_apart}
+use Rattle.elan_arms.specs.Arms.{apart_node, taken_apart}
 use Rattle.elan_arms.proofs.Patterns.{apart-same, apart-other}
 use Rattle.elan_look.specs.declared.count.Counts.{Counts}
 use Rattle.elan_look.specs.declared.sight.Sight.{Sight}
 use Rattle.elan_look.specs.Sights.{is_given, is_sought}
 use Rattle.elan_look.specs.Nodes.{settled_of, loose_of, settled, loose, one_more, counted}
-use Rattle.elan_look.proofs.SightLemmas.{given-int}
 use Rattle.elan_look.proofs.TellLemmas.{others, others-cons}
 
 module _ {X : Type 0} (test : X → Bool) where

@@ -1,15 +1,14 @@
 -- What is left of the arguments of a node serves the patterns that are left.
-use Rattle.std.proofs.Common.{◌≡◌, refl, sym, ap, ◌∙◌, ⊎_elim, subst, ℕ, ◌+◌, ◌≤◌, ◌==◌, Bool, true, false, cond, not, ◌&&◌, Decides, Option, Some, None, List, [], ◌∷◌, ◌++◌, length, filter, arith}
+use Rattle.std.proofs.Common.{◌≡◌, refl, sym, ap, ◌∙◌, ⊎_elim, subst, ℕ, ◌+◌, ◌≤◌, ◌==◌, Bool, true, false, cond, not, ◌&&◌, Decides, Some, None, List, [], ◌∷◌, ◌++◌, length, filter, arith}
 use Rattle.std.specs.List.{list_all}
 use Rattle.boxcar.specs.Table.{Where}
 use Rattle.elan_terms.specs.declared.tree.OpId.{OpId}
-use Rattle.elan_terms.specs.declared.tree.SortId.{SortId}
 use Rattle.elan_terms.specs.declared.tree.Term.{Term}
 use Rattle.elan_terms.specs.declared.tree.Pattern.{Pattern}
 use Rattle.elan_terms.specs.declared.tree.PatternNode as pattern
 use Rattle.elan_terms.specs.declared.tree.Shapes.{Shapes}
 use Rattle.elan_terms.specs.Trees.{app_term}
-use Rattle.elan_terms.specs.Term.{is_ac, arms_under, ascending}
+use Rattle.elan_terms.specs.Term.{is_ac, arms_under}
 use Rattle.elan_terms.specs.Match.{instance}
 use Rattle.elan_terms.specs.Ascending.{Ascends}
 use Rattle.elan_terms.proofs.Lists.{AllOf}
@@ -17,18 +16,18 @@ use Rattle.elan_terms.proofs.Sorting.{not_true, ascending-length}
 use Rattle.elan_laws.specs.Parts.{times}
 use Rattle.elan_laws.proofs.CanonicalLaws.{true_or_false}
 use Rattle.elan_table.specs.Rows.{terms}
-use Rattle.elan_arms.specs.Arms.{app_pattern, heads, apart_node, taken_apart, arms, times_brought, many_brought}
+use Rattle.elan_arms.specs.Arms.{app_pattern, heads, taken_apart, arms, times_brought, many_brought}
 use Rattle.elan_arms.specs.Values.{IsProper}
 use Rattle.elan_arms.proofs.Times.{ascending-alike}
 use Rattle.elan_arms.proofs.Patterns.{var_pattern, int_pattern, ind_pattern, cases_pattern, instance-of_var}
 use Rattle.elan_arms.proofs.Nodes.{all_arms, arms-times, arms-many, other-arms, valid-arms, arguments-times, times-arguments, none-headed}
 use Rattle.elan_look.specs.declared.low.Low.{Low}
-use Rattle.elan_look.specs.declared.low.Low.TheVariants.{Empty, Any, At}
+use Rattle.elan_look.specs.declared.low.Low.TheVariants.{Empty}
 use Rattle.elan_look.specs.declared.count.Counts.{Counts}
 use Rattle.elan_look.specs.declared.sight.Sight.{Sight}
 use Rattle.elan_look.specs.Sights.{is_given, is_sought}
-use Rattle.elan_look.specs.Tells.{sought_value, Knows, Agrees, Allows, Tells, Makes, MakeNode}
-use Rattle.elan_look.specs.Nodes.{settled_of, loose_of, settled, loose, AreLeft, TakesAway, none_counted, MayServe, one_more, counted, Serve, AreThere}
+use Rattle.elan_look.specs.Tells.{Tells, Makes, MakeNode}
+use Rattle.elan_look.specs.Nodes.{loose_of, settled, loose, TakesAway, none_counted, MayServe, one_more, counted, Serve, AreThere}
 use Rattle.elan_look.proofs.SightLemmas.{given-app}
 use Rattle.elan_look.proofs.TellLemmas.{tells-same, by_node}
 use Rattle.elan_look.proofs.CountLemmas as counts

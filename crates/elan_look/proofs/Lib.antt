@@ -2,7 +2,8 @@ pub mod SightLemmas
 pub mod LowLemmas
 pub mod TellLemmas
 pub mod CountLemmas
+pub mod SayLemmas
 pub mod NodeLemmas
 pub mod LeftLemmas
-pub mod AimLemmas
 pub mod ShareLemmas
+pub mod PlanLemmas

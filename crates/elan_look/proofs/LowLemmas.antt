@@ -1,14 +1,13 @@
 -- What two bounds allow together, and one of two.
-use Rattle.std.proofs.Common.{◌≡◌, refl, sym, ap, ◌∙◌, ◌⊎◌, inl, inr, ⊎_elim, subst, ℕ, Bool, true, false, cond, ◌↔◌, Option, Some, None, is_lt, is_gt, IsTrue}
+use Rattle.std.proofs.Common.{◌≡◌, refl, sym, ap, ◌∙◌, subst, Bool, true, false, cond, is_lt, is_gt}
 use Rattle.std.specs.declared.cmp.Ordering.{Ordering}
 use Rattle.std.specs.declared.cmp.Ordering.TheVariants.{Less, Equal, Greater}
 use Rattle.std.specs.Ordering.{ordering_reverse}
 use Rattle.boxcar.specs.Table.{Where}
-use Rattle.elan_terms.specs.declared.tree.SortId.{SortId}
 use Rattle.elan_terms.specs.declared.tree.Term.{Term}
 use Rattle.elan_terms.specs.declared.tree.Shapes.{Shapes}
 use Rattle.elan_terms.specs.Term.{order}
-use Rattle.elan_terms.specs.Ascending.{Before, NotAfter}
+use Rattle.elan_terms.specs.Ascending.{NotAfter}
 use Rattle.elan_terms.proofs.OrderLemmas.{order-itself}
 use Rattle.elan_terms.proofs.OrderLaws.{reversed}
 use Rattle.elan_terms.proofs.Sorting.{not_true, not_after_trans}
@@ -36,7 +35,7 @@ pub turned : (t u : Term) → is_lt (order t u) ≡ false → NotAfter u t
 turned t u e = ap is_gt (reversed u t) ∙ not_less (order t u) e
 
 module _ {N : Type 0} where
-  meet_by : (P : Low N → Type 0) (b : Bool) (x y : Low N) → P x → P y → P (cond b x y)
+  pub meet_by : (P : Low N → Type 0) (b : Bool) (x y : Low N) → P x → P y → P (cond b x y)
   meet_by P true x y p q = p
   meet_by P false x y p q = q
 

@@ -1,6 +1,5 @@
 -- What the arguments of a node tell of its patterns.
-use Rattle.std.proofs.Common.{◌≡◌, refl, sym, ap, ◌∙◌, ◌⊎◌, inl, inr, ⊎_elim, subst, ℕ, suc, ◌+◌, ◌≤◌, ◌<◌, ◌==◌, Bool, true, false, cond, not, ◌&&◌, Option, Some, None, List, [], ◌∷◌, ◌++◌, map, length, filter, get_or, option_map, Contains, is_some, eq-eqb, ne_eqb, arith}
-use Rattle.std.specs.List.{list_all}
+use Rattle.std.proofs.Common.{◌≡◌, refl, sym, ap, ◌∙◌, ◌⊎◌, inl, inr, ⊎_elim, subst, ℕ, suc, ◌+◌, ◌≤◌, ◌<◌, Bool, true, false, cond, not, Option, Some, None, List, [], ◌∷◌, ◌++◌, length, filter, get_or, option_map, is_some, eq-eqb, ne_eqb, arith}
 use Rattle.boxcar.specs.Table.{Where}
 use Rattle.elan_terms.specs.declared.tree.OpId.{OpId}
 use Rattle.elan_terms.specs.declared.tree.SortId.{SortId}
@@ -9,34 +8,32 @@ use Rattle.elan_terms.specs.declared.tree.Pattern.{Pattern}
 use Rattle.elan_terms.specs.declared.tree.PatternNode as pattern
 use Rattle.elan_terms.specs.declared.tree.Shapes.{Shapes}
 use Rattle.elan_terms.specs.Trees.{app_term}
-use Rattle.elan_terms.specs.Term.{is_ac, arms_under, ascending}
+use Rattle.elan_terms.specs.Term.{is_ac, arms_under}
 use Rattle.elan_terms.specs.Match.{instance}
 use Rattle.elan_terms.specs.Ascending.{NotAfter, Ascends}
-use Rattle.elan_terms.specs.Canonical.{is_headed, IsSettled, IsCanonical}
-use Rattle.elan_terms.proofs.Lists.{AllOf, In, in_of_contains, contains_of_in, pairs_from}
+use Rattle.elan_terms.specs.Canonical.{is_headed, IsCanonical}
+use Rattle.elan_terms.proofs.Lists.{In, in_of_contains, contains_of_in, pairs_from}
 use Rattle.elan_terms.proofs.MatchLemmas.{instance-var}
 use Rattle.elan_terms.proofs.OrderLemmas.{equal-same}
-use Rattle.elan_terms.proofs.Sorting.{not_true, ascending-length}
+use Rattle.elan_terms.proofs.Sorting.{not_true}
 use Rattle.elan_laws.specs.Parts.{SomeOf, times}
 use Rattle.elan_laws.proofs.TimesLaws.{some-exactly}
 use Rattle.elan_laws.proofs.CanonicalLaws.{canonical_app, true_or_false, arms-other, headed_is}
 use Rattle.elan_table.specs.Rows.{MayStand, terms}
-use Rattle.elan_bags.specs.Bags.{IsLeft, IsMinus}
-use Rattle.elan_arms.specs.Arms.{app_pattern, is_variable_node, is_variable, heads_node, heads, apart_node, taken_apart, arms, times_brought, many_brought}
-use Rattle.elan_arms.specs.Values.{IsProper}
-use Rattle.elan_arms.proofs.Times.{one_if, times-cons, one_if-same, times_in, in_times, ascending-alike}
-use Rattle.elan_arms.proofs.Nodes.{all_arms, arms-times, arms-many, other-arms, apart-times, arguments-times, times-arguments, valid-arms}
+use Rattle.elan_bags.specs.Bags.{IsMinus}
+use Rattle.elan_arms.specs.Arms.{is_variable_node, is_variable, heads_node, heads, apart_node, taken_apart, arms, times_brought}
+use Rattle.elan_arms.proofs.Times.{one_if, times-cons, one_if-same, times_in}
+use Rattle.elan_arms.proofs.Nodes.{other-arms, apart-times}
 use Rattle.elan_look.specs.declared.low.Low.{Low}
-use Rattle.elan_look.specs.declared.low.Low.TheVariants.{Empty, Any, At}
-use Rattle.elan_look.specs.declared.count.Counts.{Counts}
+use Rattle.elan_look.specs.declared.low.Low.TheVariants.{Empty, Any}
 use Rattle.elan_look.specs.declared.sight.Sight.{Sight}
 use Rattle.elan_look.specs.Lows.{is_empty, meet, join}
-use Rattle.elan_look.specs.Sights.{value_at, is_given, is_sought}
-use Rattle.elan_look.specs.Tells.{sought_value, Knows, Agrees, Allows, IsTaken, Tells, Makes, MakeNode}
-use Rattle.elan_look.specs.Nodes.{settled_of, loose_of, settled, loose, AreLeft, TakesAway, FindsIn, none_counted, MayServe, one_more, counted, Serve, AreThere, IsAmong}
-use Rattle.elan_look.proofs.SightLemmas.{given-var, given-int, given-app}
+use Rattle.elan_look.specs.Sights.{value_at, is_given}
+use Rattle.elan_look.specs.Tells.{sought_value, Knows, Agrees, Allows, IsTaken, Tells, Makes}
+use Rattle.elan_look.specs.Nodes.{settled_of, loose_of, settled, loose, AreLeft, TakesAway, FindsIn, AreThere, IsAmong}
+use Rattle.elan_look.proofs.SightLemmas.{given-var}
 use Rattle.elan_look.proofs.LowLemmas.{allows-meet, taken-meet, allows-join, join-allows, taken-join}
-use Rattle.elan_look.proofs.TellLemmas.{others, others-cons, tells-never, allows_none, both_true}
+use Rattle.elan_look.proofs.TellLemmas.{others, others-cons, allows_none}
 use Rattle.elan_look.proofs.CountLemmas as counts
 
 pub rows-many : (rows : List (Where Term)) → length rows ≡ length (terms rows)

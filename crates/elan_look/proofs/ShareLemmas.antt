@@ -1,26 +1,43 @@
 -- How the arguments that are left are shared out between the sought variable and the other patterns.
-use Rattle.std.proofs.Common.{◌≡◌, refl, sym, ap, ◌∙◌, subst, ℕ, suc, ◌+◌, ◌*◌, ◌≤◌, ◌==◌, Bool, true, false, cond, eqb-true, Option, Some, List, [], ◌∷◌, ◌++◌, length, length-append, arith}
+use Rattle.std.proofs.Common.{◌≡◌, refl, sym, ap, ◌∙◌, ⊎_elim, subst, ℕ, zero, suc, pos, ◌+◌, ◌*◌, ◌<◌, ◌≤◌, max, map, Bool, true, false, cond, eqb-true, Option, Some, None, List, [], ◌∷◌, ◌++◌, length, length-append, arith}
+use Rattle.std.specs.List.{list_all}
+use Rattle.boxcar.specs.Table.{Where}
 use Rattle.elan_terms.specs.declared.tree.OpId.{OpId}
 use Rattle.elan_terms.specs.declared.tree.SortId.{SortId}
 use Rattle.elan_terms.specs.declared.tree.Term.{Term}
 use Rattle.elan_terms.specs.declared.tree.Pattern.{Pattern}
 use Rattle.elan_terms.specs.declared.tree.PatternNode as pattern
 use Rattle.elan_terms.specs.declared.tree.Shapes.{Shapes}
-use Rattle.elan_terms.specs.Term.{is_ac, arms_under}
+use Rattle.elan_terms.specs.Term.{is_ac, arms_under, depth, greatest}
+use Rattle.elan_terms.specs.Trees.{int_term, app_term}
 use Rattle.elan_terms.specs.Match.{instance}
-use Rattle.elan_terms.proofs.Lists.{AllOf}
+use Rattle.elan_terms.specs.Valid.{HasSort}
+use Rattle.elan_terms.specs.Canonical.{is_headed}
+use Rattle.elan_terms.proofs.Lists.{AllOf, In, in_all, all_in, all_of, all_from}
+use Rattle.elan_terms.proofs.Sorting.{not_true}
+use Rattle.elan_terms.proofs.TermLemmas.{depth-app}
 use Rattle.elan_laws.specs.Parts.{times}
+use Rattle.elan_laws.proofs.CanonicalLaws.{true_or_false, arms-other, headed_is}
+use Rattle.elan_table.specs.Rows.{MayStand}
+use Rattle.elan_table.proofs.Depths.{shallow}
+use Rattle.elan_bags.proofs.LawLemmas.{share_long}
+use Rattle.elan_shares.specs.Shares.{After, IsShare}
 use Rattle.elan_arms.specs.Arms.{app_pattern, heads, arms, times_brought}
 use Rattle.elan_arms.specs.Values.{IsProper}
-use Rattle.elan_arms.proofs.Times.{times-append}
+use Rattle.elan_arms.proofs.Times.{times-append, times_in, in_times}
 use Rattle.elan_arms.proofs.Patterns.{var_pattern, int_pattern, cases_pattern, instance-of_var}
 use Rattle.elan_arms.proofs.Nodes.{other-arms, valid-arms}
 use Rattle.elan_look.specs.declared.count.Counts.{Counts}
 use Rattle.elan_look.specs.declared.sight.Sight.{Sight}
-use Rattle.elan_look.specs.Sights.{is_sought, is_sought_number}
-use Rattle.elan_look.specs.Tells.{Agrees}
-use Rattle.elan_look.specs.Nodes.{loose, none_counted, one_more, counted, Serve}
-use Rattle.elan_look.proofs.LeftLemmas.{loose-apart_all}
+use Rattle.elan_look.specs.declared.low.Low.{Low}
+use Rattle.elan_look.specs.declared.low.Low.TheVariants.{Empty}
+use Rattle.elan_look.specs.Lows.{is_empty, meet}
+use Rattle.elan_look.specs.Sights.{value_at, is_given, is_sought, is_sought_number}
+use Rattle.elan_look.specs.Tells.{Knows, Agrees, HasAfter, sought_value, Tells}
+use Rattle.elan_look.specs.Nodes.{loose, none_counted, one_more, counted, AreLeft, MayServe, Serve, AreThere, AreShallow, places_of, MayTake, BoundsShare}
+use Rattle.elan_look.proofs.LowLemmas.{allows-meet, taken-meet, empty-meet}
+use Rattle.elan_look.proofs.TellLemmas.{allows_none}
+use Rattle.elan_look.proofs.LeftLemmas.{loose-apart_all, left-inside}
 
 module _ {N : Type 0} (shapes : Shapes) (s : Sight N) (op : OpId) (value : ℕ → Term) (x : ℕ) where
   -- what the sought variable brings
@@ -136,3 +153,110 @@ module _ {N : Type 0} (shapes : Shapes) (s : Sight N) (op : OpId) where
         enough = let few : (counted s (loose s op ps) none_counted).free + (counted s (loose s op ps) none_counted).others ≤ length h.rest + 0 = h.enough in omega arith;
         exactly = λ none. let whole : length h.rest + 0 ≡ (counted s (loose s op ps) none_counted).others = (h.exactly none).1 in omega arith;
       }
+
+-- ---- a share may stand in the table
+
+positive_product : (k n : ℕ) → 0 < k → n ≤ k * n
+positive_product zero n h = absurd (omega arith)
+positive_product (suc k) n h = let e : (k + 1) * n ≡ k * n + n = omega arith in omega arith
+
+depth_by : (op : OpId) (u : Term) → AllOf (λ t. depth t < 2000) (arms_under op u) → depth u ≤ 2000
+depth_by op u h = ⊎_elim
+    (λ e. subst (λ t. depth t ≤ 2000) (sym (headed_is op u e)) (shallow op (arms_under op u) (all_from (λ t. depth t < 2000) (arms_under op u) h)))
+    (λ e. let low : depth u < 2000 = (subst (AllOf (λ t. depth t < 2000)) (arms-other op u e) h).0 in omega arith)
+    (true_or_false (is_headed op u))
+
+module _ {N : Type 0} (shapes : Shapes) (s : Sight N) (op : OpId) where
+  share_low : (us : List Term) (c : Counts) (u : Term) → 0 < c.sought → AreShallow us → Shares shapes s op us c u → depth u ≤ 2000
+  share_low us c u some low h = depth_by op u (all_in (λ t. depth t < 2000) (arms_under op u) (λ t i.
+      let there : 1 ≤ times t (arms_under op u) = in_times t (arms_under op u) i in
+      let more : times t (arms_under op u) ≤ c.sought * times t (arms_under op u) = positive_product c.sought (times t (arms_under op u)) some in
+      let sum : times t us ≡ c.sought * times t (arms_under op u) + times t h.rest = h.all t in
+      in_all (λ v. depth v < 2000) us t (all_of (λ v. depth v < 2000) us low) (times_in t us (omega arith))))
+
+  -- the value of the sought variable is one that it may take
+  share_of : (value : ℕ → Term) (v : ℕ × SortId) (ps : List Pattern) (us : List Term) → is_ac shapes op ≡ true → AreShallow us → Agrees shapes s value → s.sought ≡ Some v → Serve shapes op (loose s op ps) us value
+      → 0 < (counted s (loose s op ps) none_counted).sought → IsShare shapes op us (places_of (counted s (loose s op ps) none_counted)) v.1 s.floor (value v.0)
+  share_of value v ps us ac low a e serve some =
+      let c : Counts = counted s (loose s op ps) none_counted in
+      let h : Shares shapes s op us c (value v.0) = serve-shared shapes s op value v ps us ac a e serve in
+      let long : length us ≡ c.sought * length (arms_under op (value v.0)) + length h.rest = share_long c.sought us (arms_under op (value v.0)) h.rest h.all in
+      let own : HasSort shapes (value v.0) v.1 × After s.floor (value v.0) = subst (λ o. HasAfter shapes o s.floor value) e a.sought in record {
+        may = record { valid = (a.proper v.0).valid; canonical = (a.proper v.0).canonical; low = share_low us c (value v.0) some low h };
+        sorted = own.0;
+        after = own.1;
+        among = λ t. let sum : times t us ≡ c.sought * times t (arms_under op (value v.0)) + times t h.rest = h.all t in omega arith;
+        enough = let few : c.free + c.others ≤ length h.rest = h.enough in omega arith;
+        exactly = λ none. let whole : length h.rest ≡ c.others = h.exactly none in omega arith;
+      }
+
+  pub serve-may_take : (value : ℕ → Term) (ps : List Pattern) (us : List Term) (c : Counts) → c ≡ counted s (loose s op ps) none_counted → is_ac shapes op ≡ true → AreShallow us → Agrees shapes s value
+      → Serve shapes op (loose s op ps) us value → MayTake shapes op us c s.sought s.floor (sought_value s.sought value)
+  serve-may_take value ps us c is ac low a serve = by_sought s.sought refl
+    where
+      by_sought : (o : Option (ℕ × SortId)) → s.sought ≡ o → MayTake shapes op us c o s.floor (sought_value o value)
+      by_sought None e = tt
+      by_sought (Some v) e = subst (λ (k : Counts). 0 < k.sought → IsShare shapes op us (places_of k) v.1 s.floor (value v.0)) (sym is)
+          (λ some. share_of value v ps us ac low a e serve some)
+
+  -- ---- bounds
+
+  pub left-own : (ps : List Pattern) (us : List Term) (c : Counts) (own : Low N) → c ≡ counted s (loose s op ps) none_counted → is_ac shapes op ≡ true → AreShallow us → BoundsShare shapes s op us c own → is_empty own ≡ true
+      → Tells shapes s (list_all (is_given s) ps) (Serve shapes op (loose s op ps) us) Empty
+  left-own ps us c own e ac low h n = record {
+    prunes = λ value a serve. allows_none shapes s own (sought_value s.sought value) n (h.least (sought_value s.sought value) (serve-may_take value ps us c e ac low a serve));
+    taken = tt;
+    exact = λ g value k m. not_true m;
+  }
+
+  pub left-both : (ps : List Pattern) (us : List Term) (c : Counts) (many : ℕ) (own inside both : Low N) → c ≡ counted s (loose s op ps) none_counted → many ≡ length us → is_ac shapes op ≡ true → AreShallow us → MayServe c many
+      → BoundsShare shapes s op us c own → Tells shapes s false (AreThere shapes op (loose s op ps) us) inside → both ≡ meet own inside
+      → Tells shapes s (list_all (is_given s) ps) (Serve shapes op (loose s op ps) us) both
+  left-both ps us c many own inside both e l ac low m h k is =
+      let j : Tells shapes s (list_all (is_given s) ps) (Serve shapes op (loose s op ps) us) inside = left-inside shapes s op ac ps us c many inside e l m k in
+      subst (Tells shapes s (list_all (is_given s) ps) (Serve shapes op (loose s op ps) us)) (sym is) (record {
+        prunes = λ value a serve. allows-meet own inside (sought_value s.sought value)
+            (h.least (sought_value s.sought value) (serve-may_take value ps us c e ac low a serve)) (j.prunes value a serve);
+        taken = taken-meet shapes s own inside h.taken j.taken;
+        exact = λ g value kn n. j.exact g value kn (empty-meet own inside n).1;
+      })
+
+  -- ---- arguments that may stand under an operator
+
+  value_or : Option (Where Term) → Term
+  value_or None = int_term (pos 0)
+  value_or (Some row) = row.value
+
+  -- values that are as they are known
+  some_value : ℕ → Term
+  some_value x = value_or (value_at s x)
+
+  some_knows : Knows s some_value
+  unfolding value_or some_value
+  some_knows x row e = ap value_or e
+
+  pub left_shallow : (ps : List Pattern) (us ws : List Term) → AreLeft shapes s op ps us ws → AreShallow us → AreShallow ws
+  left_shallow ps us ws h low = all_from (λ t. depth t < 2000) ws (all_in (λ t. depth t < 2000) ws (λ t i.
+      let there : 1 ≤ times t ws = in_times t ws i in
+      let sum : times t us ≡ times_brought shapes some_value op t ps + times t ws = h.all some_value some_knows t in
+      in_all (λ v. depth v < 2000) us t (all_of (λ v. depth v < 2000) us low) (times_in t us (omega arith))))
+
+within_max : (m n : ℕ) → (m ≤ max m n) × (n ≤ max m n)
+within_max m n = (omega arith, omega arith)
+
+not_deeper : (ts : List Term) (t : Term) → In t ts → depth t ≤ greatest (map depth ts)
+not_deeper [] t i = elim i [ ]
+not_deeper (u ∷ ts) t i = ⊎_elim
+    (λ e. let same : depth t ≡ depth u = ap depth e in let k : (depth u ≤ max (depth u) (greatest (map depth ts))) × (greatest (map depth ts) ≤ max (depth u) (greatest (map depth ts))) = within_max (depth u) (greatest (map depth ts)) in
+    let le : depth u ≤ max (depth u) (greatest (map depth ts)) = k.0 in omega arith)
+    (λ j. let later : depth t ≤ greatest (map depth ts) = not_deeper ts t j in let k : (depth u ≤ max (depth u) (greatest (map depth ts))) × (greatest (map depth ts) ≤ max (depth u) (greatest (map depth ts))) = within_max (depth u) (greatest (map depth ts)) in
+    let le : greatest (map depth ts) ≤ max (depth u) (greatest (map depth ts)) = k.1 in omega arith)
+    i
+
+-- the arguments of a row's term may stand under an operator
+pub arguments_shallow : (shapes : Shapes) (op : OpId) (t : Term) (ts : List Term) → t ≡ app_term op ts → MayStand shapes t → AreShallow ts
+arguments_shallow shapes op t ts e m = all_from (λ u. depth u < 2000) ts (all_in (λ u. depth u < 2000) ts (λ u i.
+    let here : depth (app_term op ts) ≡ 1 + greatest (map depth ts) = depth-app (app_term op ts) op ts refl in
+    let same : depth t ≡ depth (app_term op ts) = ap depth e in
+    let low : depth t ≤ 2000 = m.low in
+    let one : depth u ≤ greatest (map depth ts) = not_deeper ts u i in omega arith))

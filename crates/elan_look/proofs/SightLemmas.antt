@@ -1,5 +1,5 @@
 -- The sort of a row's term, and which patterns have known values alone.
-use Rattle.std.proofs.Common.{◌≡◌, refl, sym, ap, ◌∙◌, Bool, true, false, ◌&&◌, ◌↔◌, ℕ, ℤ, Option, Some, None, List, [], ◌∷◌, map, slice_get, is_some, IsTrue}
+use Rattle.std.proofs.Common.{◌≡◌, refl, sym, ap, ◌∙◌, Bool, true, ◌&&◌, ℕ, ℤ, Option, Some, None, List, [], ◌∷◌, map, slice_get, is_some}
 use Rattle.std.specs.List.{list_all}
 use Rattle.boxcar.specs.Table.{Where}
 use Rattle.elan_terms.specs.declared.tree.OpId.{OpId}

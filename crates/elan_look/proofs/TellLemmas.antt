@@ -1,6 +1,6 @@
 -- What bounds tell of variables, integers and operators that are not associative and commutative.
-use Rattle.std.proofs.Common.{◌≡◌, refl, sym, ap, ◌∙◌, subst, ℕ, ℤ, Bool, true, false, cond, ◌&&◌, ◌↔◌, Decides, Option, Some, None, List, [], ◌∷◌, map, length, is_some, IsTrue, ◌<◌, get_or, arith, ◌≤◌, ◌-◌, take, drop, take_all}
-use Rattle.std.specs.List.{AllZip, list_all}
+use Rattle.std.proofs.Common.{◌≡◌, refl, sym, ap, ◌∙◌, subst, ℕ, ℤ, Bool, true, false, ◌&&◌, Decides, Option, Some, None, List, [], ◌∷◌, length, is_some, ◌<◌, get_or, arith, ◌≤◌, ◌-◌, take, drop, take_all}
+use Rattle.std.specs.List.{list_all}
 use Rattle.boxcar.specs.Table.{Where}
 use Rattle.elan_terms.specs.declared.tree.OpId.{OpId}
 use Rattle.elan_terms.specs.declared.tree.SortId.{SortId}
@@ -12,13 +12,11 @@ use Rattle.elan_terms.specs.declared.tree.Shapes.{Shapes}
 use Rattle.elan_terms.specs.Trees.{int_term, app_term}
 use Rattle.elan_terms.specs.Term.{is_ac}
 use Rattle.elan_terms.specs.Match.{instance, may_fit}
-use Rattle.elan_terms.specs.Valid.{HasSort}
 use Rattle.elan_terms.proofs.HeadLemmas.{may_fit-app_int}
 use Rattle.elan_terms.proofs.MatchLemmas.{instance-var, instance-int}
 use Rattle.elan_terms.proofs.Sorting.{not_true}
 use Rattle.elan_table.specs.Rows.{terms}
 use Rattle.elan_arms.specs.Arms.{app_pattern}
-use Rattle.elan_arms.specs.Values.{IsProper}
 use Rattle.elan_arms.proofs.Patterns.{same_operators}
 use Rattle.elan_arms.proofs.Nodes.{some_arguments}
 use Rattle.elan_arms.proofs.Places.{plain-places, places-plain, instance-fits}
@@ -27,8 +25,8 @@ use Rattle.elan_look.specs.declared.low.Low.TheVariants.{Empty, Any, At}
 use Rattle.elan_look.specs.declared.sight.Sight.{Sight}
 use Rattle.elan_look.specs.Lows.{is_empty, meet, any_if}
 use Rattle.elan_look.specs.Sights.{value_at, is_sought, is_sought_number, is_given}
-use Rattle.elan_look.specs.Tells.{After, Takes, HasAfter, sought_value, Knows, Agrees, Allows, IsTaken, Tells, Has, Makes, MakeEach}
-use Rattle.elan_look.proofs.SightLemmas.{given-var, given-int, given-app}
+use Rattle.elan_look.specs.Tells.{Takes, HasAfter, sought_value, Allows, Tells, Has, Makes, MakeEach}
+use Rattle.elan_look.proofs.SightLemmas.{given-var, given-app}
 use Rattle.elan_look.proofs.LowLemmas.{allows-meet, taken-meet, empty-meet, at-allows}
 
 -- ---- facts

@@ -2,4 +2,5 @@ pub mod Lows
 pub mod Sights
 pub mod Tells
 pub mod Nodes
-pub mod Aims
+pub mod Plans
+pub mod Matches

@@ -12,6 +12,12 @@ module _ {N : Type 0} where
   is_empty Any = false
   is_empty (At u) = false
 
+  -- whether it says that nothing is known
+  abbrev pub is_any : Low N → Bool
+  is_any Empty = false
+  is_any Any = true
+  is_any (At u) = false
+
   -- where both hold: the greater of two terms
   abbrev pub meet : Low N → Low N → Low N
   meet Empty low = Empty

@@ -1,21 +1,26 @@
 -- What is known of the arguments of a node of an associative and commutative operator.
-use Rattle.std.specs.Prelude.{◌≡◌, ℕ, suc, ◌+◌, ◌≤◌, Bool, true, false, not, Option, Some, None, List, [], ◌∷◌, ◌++◌, length, if◌then◌else◌}
-use Rattle.std.specs.List.{filter, Contains}
+use Rattle.std.specs.Prelude.{◌≡◌, ℕ, ◌+◌, ◌≤◌, ◌<◌, Bool, ◌&&◌, is_some, nat_lt, not, Option, Some, None, List, [], ◌∷◌, ◌++◌, if◌then◌else◌}
+use Rattle.std.specs.List.{All, filter, list_any, Contains}
 use Rattle.boxcar.specs.Table.{Where}
 use Rattle.elan_terms.specs.declared.tree.OpId.{OpId}
+use Rattle.elan_terms.specs.declared.tree.SortId.{SortId}
 use Rattle.elan_terms.specs.declared.tree.Term.{Term}
 use Rattle.elan_terms.specs.declared.tree.Pattern.{Pattern}
 use Rattle.elan_terms.specs.declared.tree.PatternNode as pattern
 use Rattle.elan_terms.specs.declared.tree.Shapes.{Shapes}
+use Rattle.elan_terms.specs.Term.{depth}
 use Rattle.elan_terms.specs.Match.{instance}
 use Rattle.elan_terms.specs.Ascending.{Ascends}
-use Rattle.elan_laws.specs.Parts.{SomeOf, times}
+use Rattle.elan_laws.specs.Parts.{times}
 use Rattle.elan_table.specs.Rows.{terms}
-use Rattle.elan_arms.specs.Arms.{apart_node, times_brought}
+use Rattle.elan_arms.specs.Arms.{is_variable, apart_node, times_brought}
+use Rattle.elan_shares.specs.declared.share.Places.{Places}
+use Rattle.elan_shares.specs.Shares.{IsShare}
 use Rattle.elan_look.specs.declared.count.Counts.{Counts}
+use Rattle.elan_look.specs.declared.low.Low.{Low}
 use Rattle.elan_look.specs.declared.sight.Sight.{Sight}
-use Rattle.elan_look.specs.Sights.{is_given, is_sought}
-use Rattle.elan_look.specs.Tells.{Knows, Agrees}
+use Rattle.elan_look.specs.Sights.{is_given, is_sought, seeks}
+use Rattle.elan_look.specs.Tells.{Knows, Agrees, Allows, IsTaken}
 
 module _ {N : Type 0} where
   -- ---- patterns
@@ -36,6 +41,10 @@ module _ {N : Type 0} where
   abbrev pub loose : Sight N → OpId → List Pattern → List Pattern
   loose s op [] = []
   loose s op (p ∷ ps) = loose_of s op p ++ loose s op ps
+
+  -- whether the sought variable, its value not known, stands inside one of these patterns
+  abbrev pub seeks_inside : Sight N → List Pattern → Bool
+  seeks_inside s = list_any (λ p. not (is_variable p) && seeks s p)
 
   -- ---- arguments that are taken away
 
@@ -86,3 +95,28 @@ AreThere shapes op ps us value = (u : Term) → times_brought shapes value op u 
 -- the pattern is one of the terms
 unfoldable pub IsAmong : Shapes → Pattern → List Term → (ℕ → Term) → Type 0
 IsAmong shapes p us value = Contains us (instance shapes value p)
+
+-- ---- what the sought variable takes of the arguments that are left
+
+-- each of the terms may stand under an operator
+abbrev pub AreShallow : List Term → Type 0
+AreShallow = All (λ t. depth t < 2000)
+
+-- the patterns that were counted, as places
+abbrev pub places_of : Counts → Places
+places_of c = record { sought = c.sought; free = c.free; others = c.others }
+
+-- the variable that is sought, if there is one, may take the term at its places, of which there is at least one
+abbrev pub MayTake : Shapes → OpId → List Term → Counts → Option (ℕ × SortId) → Option (Where Term) → Term → Type 0
+MayTake shapes op us c None floor u = Unit {0}
+MayTake shapes op us c (Some v) floor u = 0 < c.sought → IsShare shapes op us (places_of c) v.1 floor u
+
+module _ {N : Type 0} where
+  -- the bound allows all terms that the sought variable may take
+  pub record BoundsShare (shapes : Shapes) (s : Sight N) (op : OpId) (us : List Term) (c : Counts) (low : Low N) : Type 0 where
+    pub least : (u : Term) → MayTake shapes op us c s.sought s.floor u → Allows low u
+    pub taken : IsTaken shapes s low
+
+  -- whether there is a variable that is sought, and it has a place
+  abbrev pub has_place : Sight N → Counts → Bool
+  has_place s c = is_some s.sought && nat_lt 0 c.sought

@@ -1,6 +1,6 @@
 -- What is known where a pattern is looked at.
-use Rattle.std.specs.Prelude.{ℕ, ◌-◌, ◌==◌, Bool, true, false, Option, Some, None, List, slice_get, is_some, option_and_then, nat_lt, if◌then◌else◌}
-use Rattle.std.specs.List.{list_all}
+use Rattle.std.specs.Prelude.{ℕ, ◌-◌, ◌==◌, Bool, true, false, not, ◌&&◌, Option, Some, None, slice_get, is_some, option_and_then, nat_lt, if◌then◌else◌}
+use Rattle.std.specs.List.{list_all, list_any}
 use Rattle.boxcar.specs.Table.{Where}
 use Rattle.elan_terms.specs.declared.tree.SortId.{SortId}
 use Rattle.elan_terms.specs.declared.tree.Term.{Term}
@@ -25,3 +25,11 @@ module _ {N : Type 0} where
   -- whether each variable of the pattern has a known value
   unfoldable pub is_given : Sight N → Pattern → Bool
   is_given s = fold_pattern (λ x _. is_some (value_at s x)) (λ _. true) (λ _ each. list_all (λ given. given) each)
+
+  -- whether the variable of this number is the one that is sought, and its value is not known
+  abbrev pub seeks_at : Sight N → ℕ → Bool
+  seeks_at s x = is_sought s x && not (is_some (value_at s x))
+
+  -- whether that variable stands in the pattern
+  unfoldable pub seeks : Sight N → Pattern → Bool
+  seeks s = fold_pattern (λ x _. seeks_at s x) (λ _. false) (λ _ each. list_any (λ there. there) each)

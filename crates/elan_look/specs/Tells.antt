@@ -10,21 +10,17 @@ use Rattle.elan_terms.specs.declared.tree.Shapes.{Shapes}
 use Rattle.elan_terms.specs.Trees.{int_term, app_term}
 use Rattle.elan_terms.specs.Match.{instance}
 use Rattle.elan_terms.specs.Valid.{HasSort}
-use Rattle.elan_terms.specs.Ascending.{Before, NotAfter}
+use Rattle.elan_terms.specs.Ascending.{NotAfter}
 use Rattle.elan_arms.specs.Arms.{app_pattern}
 use Rattle.elan_arms.specs.Values.{IsProper}
+use Rattle.elan_shares.specs.Shares.{After}
 use Rattle.elan_look.specs.declared.low.Low.{Low}
 use Rattle.elan_look.specs.declared.low.Low.TheVariants.{Empty, Any, At}
 use Rattle.elan_look.specs.declared.sight.Sight.{Sight}
-use Rattle.elan_look.specs.Lows.{is_empty}
+use Rattle.elan_look.specs.Lows.{is_empty, is_any}
 use Rattle.elan_look.specs.Sights.{value_at}
 
 -- ---- values
-
--- a term comes after the floor; every term does where there is no floor
-abbrev pub After : Option (Where Term) → Term → Type 0
-After None u = Unit {0}
-After (Some floor) u = Before floor.value u
 
 -- the sought variable may have this value: it is of the variable's sort and comes after the floor
 abbrev pub Takes : Shapes → Option (ℕ × SortId) → Option (Where Term) → Term → Type 0
@@ -72,6 +68,10 @@ module _ {N : Type 0} where
     pub prunes : (value : ℕ → Term) → Agrees shapes s value → Fact value → Allows low (sought_value s.sought value)
     pub taken : IsTaken shapes s low
     pub exact : IsTrue given → (value : ℕ → Term) → Knows s value → IsFalse (is_empty low) → Fact value
+
+  -- where the sought variable is there, something is known
+  abbrev pub SaysIf : Bool → Low N → Type 0
+  SaysIf there low = IsTrue there → IsFalse (is_any low)
 
 -- ---- facts
 

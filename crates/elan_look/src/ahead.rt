@@ -3,8 +3,8 @@ ghost use Rattle.std.specs.Prelude.{◌≡◌, ℕ, IsTrue, IsFalse, IfOk};
 ghost use Rattle.elan_terms.specs.declared.tree.Term.{Term as TermValue};
 ghost use Rattle.elan_terms.specs.Match.{instance};
 ghost use Rattle.elan_look.specs.Lows.{is_empty};
-ghost use Rattle.elan_look.specs.Sights.{is_given};
-ghost use Rattle.elan_look.specs.Tells.{Agrees, Knows, Allows, IsTaken, sought_value};
+ghost use Rattle.elan_look.specs.Sights.{is_given, seeks};
+ghost use Rattle.elan_look.specs.Tells.{Agrees, Knows, Allows, IsTaken, SaysIf, sought_value};
 
 use crate::NoMemory;
 use crate::low::Low;
@@ -31,6 +31,7 @@ pub fn look<N: Name, R: Wait>(
         → instance N.shapes value pattern.now ≡ term.now.value
         → Allows low (sought_value sight.now.sought value)) }
     ensures taken { IfOk result (IsTaken N.shapes sight.now) }
+    ensures says { IfOk result (SaysIf (seeks sight.now pattern.now)) }
     ensures exact { IfOk result (λ low. IsTrue (is_given sight.now pattern.now)
         → (value : ℕ → TermValue) → Knows sight.now value → IsFalse (is_empty low)
         → instance N.shapes value pattern.now ≡ term.now.value) }

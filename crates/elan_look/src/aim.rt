@@ -1,143 +1,110 @@
-//! A pattern that is to be the term of a row.
-ghost use Rattle.std.specs.Prelude.{◌≡◌, ◌<◌, ◌↔◌, length, map, Some, None, IfOk, IfSome, IsTrue, slice_get};
-ghost use Rattle.std.specs.List.{All, Contains};
-ghost use Rattle.std.specs.Option.{option_copied};
+//! The matches of a pattern in the term of a row.
+ghost use Rattle.std.specs.Prelude.{◌≡◌, IfOk};
 ghost use Rattle.elan_terms.specs.Match.{variables as spec_variables};
-ghost use Rattle.elan_table.specs.Rows.{MayStand, terms};
-ghost use Rattle.elan_look.specs.Tells.{After};
-ghost use Rattle.elan_look.specs.Aims.{all_there, HaveSorts};
+ghost use Rattle.elan_match.specs.Plain.{AreNumbered};
 
 use crate::NoMemory;
-use crate::low::Low;
-use crate::sight::Sight;
-use crate::sorts::is_of_sort;
-use crate::walk::look_at;
+use crate::plan::Plan;
+use elan_search::{Ahead, Low};
 use elan_table::{Name, Table, TermRef};
-use elan_terms::{Pattern, SortId};
-use sqlite_items::Items;
+use elan_terms::{Pattern, copy_pattern, variables};
 use std::alloc::Global;
+use std::marker::Model;
 use std::sync::Wait;
 
-/// A pattern, its variables with their sorts in order of first occurrence, the number of the first of
-/// them, and the row whose term the pattern is to be.
+/// A pattern that is to be the term of a row. A search sees it as the matches, which are not kept: each
+/// has a value for each variable, in order of first occurrence. Contracts see the pattern and the term.
 #[derive(Drop)]
 pub struct Aim<N: Name> {
-    pub pattern: Pattern,
-    pub variables: Items<(u32, SortId)>,
-    pub first: u32,
-    pub term: TermRef<N>,
+    plan: Plan<N>,
 }
 
-/// What holds of the term of each of these rows.
-fn all_known<N: Name>(rows: &[TermRef<N>])
-    ensures { All (λ t. MayStand N.shapes t.value) rows.now }
-{
-    match rows {
-        [] => {}
-        [first, rest @ ..] => {
-            first.known();
-            all_known(rest);
-        }
-    }
-}
+impl<N: Name> Model for Aim<N> {
+    ghost use Rattle.std.specs.Coded.{codes, coded×};
+    ghost use Rattle.elan_terms.specs.contracts.tree.Pattern as pattern_type;
+    ghost use Rattle.elan_terms.specs.contracts.tree.Term as term_type;
+    ghost use Rattle.elan_terms.specs.declared.tree.Pattern.{Pattern as PatternValue};
+    ghost use Rattle.elan_terms.specs.declared.tree.Term.{Term as TermValue};
 
-fn there<N: Name>(alloc: Global, rows: &[TermRef<N>]) -> Result<Items<Option<TermRef<N>>>, NoMemory>
-    ensures { IfOk result (λ known. known ≡ all_there rows.now) }
-{
-    let mut known = Items::new(alloc);
-    for row in rows {
-        known.push(Some(row.again()))?;
-    }
-    Ok(known)
-}
+    ghost Value = { PatternValue × TermValue };
 
-/// Whether each row's term has the sort of the variable beside it, and there are as many of both.
-fn have_sorts<N: Name>(table: &Table<N>, variables: &[(u32, SortId)], rows: &[TermRef<N>]) -> bool
-    ensures { IsTrue result ↔ HaveSorts N.shapes variables.now rows.now }
-{
-    match variables {
-        [] => match rows {
-            [] => true,
-            [_, ..] => false,
-        },
-        [variable, more @ ..] => match rows {
-            [] => false,
-            [row, rest @ ..] => {
-                is_of_sort(table, row, variable.1) && have_sorts(table, more, rest)
-            }
-        },
-    }
-}
+    ghost coded = { coded× (Prim.hlevel (codes, pattern_type.the_row.coded)) (Prim.hlevel (codes, term_type.the_row.coded)) };
 
-fn again<N: Name>(row: Option<&TermRef<N>>) -> Option<TermRef<N>>
-    ensures { result ≡ option_copied row.entry }
-{
-    match row {
-        None => None,
-        Some(row) => Some(row.again()),
-    }
+    ghost use Rattle.elan_look.specs.Plans.{IsPlan};
+
+    ghost view = { λ a. (a.plan.pattern, a.plan.term.value) };
+
+    ghost invariant = { λ a. IsPlan a.plan };
 }
 
 impl<N: Name> Aim<N> {
-    ghost use Rattle.std.specs.Prelude.{◌≡◌, ◌<◌, ◌↔◌, length, None, IfOk, IfSome, IsTrue};
-    ghost use Rattle.std.specs.List.{Contains};
-    ghost use Rattle.std.specs.Option.{option_copied};
-    ghost use Rattle.elan_table.specs.Rows.{terms};
-    ghost use Rattle.elan_look.specs.Tells.{After};
-    ghost use Rattle.elan_look.specs.Aims.{IsAim, matches_of, Bounds};
-
-    /// Whether these values, in the order of the variables, are a match.
-    pub fn fits<R: Wait>(
-        &self,
-        rt: &R,
+    /// The pattern's variables are numbered one after the other, from the first number on, in order of
+    /// first occurrence.
+    pub fn new(
         alloc: Global,
-        table: &Table<N>,
-        done: &[TermRef<N>],
-    ) -> Result<bool, NoMemory>
-        requires aim { IsAim self.now }
-        requires all { length done.now ≡ length self.now.variables }
-        ensures { IfOk result (λ yes.
-            IsTrue yes ↔ Contains (matches_of N.shapes self.now) (terms done.now)) }
+        pattern: &Pattern,
+        first: u32,
+        term: TermRef<N>,
+    ) -> Result<Aim<N>, NoMemory>
+        requires { AreNumbered first (spec_variables pattern.now) }
+        ensures { IfOk result (λ aim. aim ≡ (pattern.now, term.value)) }
     {
-        all_known(done);
-        self.term.known();
-        if !have_sorts(table, self.variables.as_slice(), done) {
-            return Ok(false);
-        }
-        let sight = Sight {
-            first: self.first,
-            known: there(alloc, done)?,
-            sought: None,
-            floor: None,
+        let plan = Plan {
+            pattern: copy_pattern(alloc, pattern)?,
+            variables: variables(alloc, pattern)?,
+            first,
+            term,
         };
-        let low = look_at(rt, alloc, table, &sight, &self.pattern, &self.term)?;
-        Ok(!low.is_empty())
+        Ok(Aim { plan })
     }
 
-    /// A bound for the value of the next variable in the matches that begin with these values and go
-    /// on with a term after the floor: `Empty` only where there is no such match; `At` a term after
-    /// the floor before which none of them goes on; `Any` where nothing is known.
-    pub fn bound<R: Wait>(
+    /// The same pattern and term once more.
+    pub fn again(&self, alloc: Global) -> Result<Aim<N>, NoMemory>
+        ensures { IfOk result (λ aim. aim ≡ self.now) }
+    {
+        let plan = self.plan.copy(alloc)?;
+        Ok(Aim { plan })
+    }
+}
+
+impl<N: Name> Ahead<N> for Aim<N> {
+    ghost use Rattle.std.specs.Prelude.{length};
+    ghost use Rattle.elan_terms.specs.Match.{variables as spec_variables, matches as spec_matches};
+    ghost use Rattle.elan_laws.proofs.MatchLaws.{matches-ascend};
+    ghost use Rattle.elan_look.specs.Matches.{matches-long};
+
+    ghost lists = { λ a. spec_matches N.shapes a.0 a.1 };
+
+    ghost long = { λ a. length (spec_variables a.0) };
+
+    fn count(&self) -> usize {
+        self.plan.variables.len()
+    }
+
+    fn bound<R: Wait>(
         &self,
         rt: &R,
         alloc: Global,
         table: &Table<N>,
         done: &[TermRef<N>],
         floor: Option<&TermRef<N>>,
-    ) -> Result<Low<N>, NoMemory>
-        requires aim { IsAim self.now }
-        requires more { length done.now < length self.now.variables }
-        ensures { IfOk result (Bounds (matches_of N.shapes self.now) (terms done.now) (option_copied floor.entry)) }
-    {
-        self.term.known();
-        let variable = self.variables.as_slice()[done.len()];
-        let sight = Sight {
-            first: self.first,
-            known: there(alloc, done)?,
-            sought: Some(variable),
-            floor: again(floor),
-        };
-        let low = look_at(rt, alloc, table, &sight, &self.pattern, &self.term)?;
+    ) -> Result<Low<N>, NoMemory> {
+        let low = self.plan.bound(rt, alloc, table, done, floor)?;
         Ok(low)
     }
+
+    fn fits<R: Wait>(
+        &self,
+        rt: &R,
+        alloc: Global,
+        table: &Table<N>,
+        done: &[TermRef<N>],
+    ) -> Result<bool, NoMemory> {
+        let yes = self.plan.fits(rt, alloc, table, done)?;
+        Ok(yes)
+    }
+
+    ghost all_long = { λ a. matches-long N.shapes a.0 a.1 };
+
+    ghost ascend = { λ a. matches-ascend N.shapes a.0 a.1 };
 }

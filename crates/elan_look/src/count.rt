@@ -1,9 +1,10 @@
 //! How many patterns of each kind stand under an operator.
 ghost use Rattle.std.specs.Prelude.{◌≡◌, ◌↔◌, ◌+◌, IfOk, IsTrue};
-ghost use Rattle.elan_look.specs.Nodes.{loose, loose_of, counted, none_counted, MayServe};
+ghost use Rattle.elan_look.specs.Nodes.{loose, loose_of, counted, none_counted, places_of, MayServe};
 
 use crate::NoMemory;
 use crate::sight::Sight;
+use elan_shares::Places;
 use elan_table::Name;
 use elan_terms::{OpId, Pattern, PatternNode};
 use std::alloc::AllocError;
@@ -68,6 +69,17 @@ impl Counts {
             free: self.free,
             others: more,
         })
+    }
+
+    /// The patterns that were counted, as places.
+    pub(crate) fn places(&self) -> Places
+        ensures { result ≡ places_of self.now }
+    {
+        Places {
+            sought: self.sought,
+            free: self.free,
+            others: self.others,
+        }
     }
 
     /// Whether so many arguments may serve the patterns: each takes at least one, and one alone that

@@ -5,6 +5,8 @@ mod ahead;
 mod aim;
 mod count;
 mod low;
+mod plan;
+mod share;
 mod sight;
 mod sorts;
 mod take;
@@ -17,6 +19,3 @@ pub use sight::Sight;
 
 /// Memory ran out, as std says it.
 pub type NoMemory = std::alloc::AllocError;
-
-#[cfg(test)]
-mod tests;

@@ -2,7 +2,8 @@
 ghost use Rattle.std.specs.Prelude.{◌≡◌, ◌↔◌, IsTrue};
 ghost use Rattle.std.specs.List.{list_all};
 ghost use Rattle.elan_look.specs.Sights as spec;
-ghost use Rattle.elan_look.specs.Tells.{After, Takes, IsTaken};
+ghost use Rattle.elan_shares.specs.Shares.{After};
+ghost use Rattle.elan_look.specs.Tells.{Takes};
 
 use crate::low::Low;
 use crate::sorts::is_of_sort;

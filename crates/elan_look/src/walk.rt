@@ -1,19 +1,20 @@
 //! Where a variable of a pattern may have its next value, if the pattern is to be the term.
 ghost use Rattle.std.specs.Prelude.{◌≡◌, ◌↔◌, [], ◌∷◌, false, is_some, IsTrue, IsFalse, IfOk};
-ghost use Rattle.std.specs.List.{list_all};
+ghost use Rattle.std.specs.List.{list_all, list_any};
 ghost use Rattle.elan_terms.specs.Trees.{int_term};
 ghost use Rattle.elan_terms.specs.Term.{is_ac as spec_ac};
 ghost use Rattle.elan_terms.specs.Ascending.{Ascends};
 ghost use Rattle.elan_table.specs.Rows.{terms};
 ghost use Rattle.elan_arms.specs.Arms.{is_variable, heads};
 ghost use Rattle.elan_look.specs.Lows.{any_if as spec_any_if};
-ghost use Rattle.elan_look.specs.Sights.{value_at, is_given as spec_given};
-ghost use Rattle.elan_look.specs.Tells.{Tells, Has, Makes, MakeEach, MakeNode};
-ghost use Rattle.elan_look.specs.Nodes.{settled_of, loose_of, settled, loose, TakesAway, FindsIn, Serve, AreThere, IsAmong};
+ghost use Rattle.elan_look.specs.Sights.{value_at, is_given as spec_given, seeks_at, seeks};
+ghost use Rattle.elan_look.specs.Tells.{Tells, SaysIf, Has, Makes, MakeEach, MakeNode};
+ghost use Rattle.elan_look.specs.Nodes.{settled_of, loose_of, settled, loose, seeks_inside, AreShallow, TakesAway, FindsIn, Serve, AreThere, IsAmong};
 
 use crate::NoMemory;
 use crate::count::{Counts, count_all};
 use crate::low::Low;
+use crate::share::look_own;
 use crate::sight::Sight;
 use crate::take::{copy_rows, take_arms, take_one};
 use elan_table::{Name, Table, TermRef, Top};
@@ -46,8 +47,9 @@ fn at_variable<N: Name>(
     number: u32,
     term: &TermRef<N>,
 ) -> Low<N>
-    ensures { Tells N.shapes sight.now (is_some (value_at sight.now number))
+    ensures tells { Tells N.shapes sight.now (is_some (value_at sight.now number))
         (Has number term.now.value) result }
+    ensures says { SaysIf (seeks_at sight.now number) result }
 {
     match sight.value(number) {
         Some(value) => any_if(table.equal(&value, term)),
@@ -76,8 +78,9 @@ pub(crate) fn look_at<N: Name, R: Wait>(
     pattern: &Pattern,
     term: &TermRef<N>,
 ) -> Result<Low<N>, NoMemory>
-    ensures { IfOk result (Tells N.shapes sight.now (spec_given sight.now pattern.now)
+    ensures tells { IfOk result (Tells N.shapes sight.now (spec_given sight.now pattern.now)
         (Makes N.shapes pattern.now term.now.value)) }
+    ensures says { IfOk result (SaysIf (seeks sight.now pattern.now)) }
 {
     match &pattern.node {
         PatternNode::Var(number, _) => Ok(at_variable(table, sight, *number, term)),
@@ -109,8 +112,9 @@ fn look_each<N: Name, R: Wait>(
     patterns: &[Pattern],
     rows: &[TermRef<N>],
 ) -> Result<Low<N>, NoMemory>
-    ensures { IfOk result (Tells N.shapes sight.now (list_all (spec_given sight.now) patterns.now)
+    ensures tells { IfOk result (Tells N.shapes sight.now (list_all (spec_given sight.now) patterns.now)
         (MakeEach N.shapes patterns.now (terms rows.now))) }
+    ensures says { IfOk result (SaysIf (list_any (seeks sight.now) patterns.now)) }
 {
     match patterns {
         [] => match rows {
@@ -255,7 +259,8 @@ fn look_among<N: Name, R: Wait>(
     pattern: &Pattern,
     rows: &[TermRef<N>],
 ) -> Result<Low<N>, NoMemory>
-    ensures { IfOk result (Tells N.shapes sight.now false (IsAmong N.shapes pattern.now (terms rows.now))) }
+    ensures tells { IfOk result (Tells N.shapes sight.now false (IsAmong N.shapes pattern.now (terms rows.now))) }
+    ensures says { IfOk result (SaysIf (seeks sight.now pattern.now)) }
 {
     let mut low = Low::Empty;
     let mut left = rows;
@@ -279,8 +284,9 @@ fn look_inside<N: Name, R: Wait>(
     pattern: &Pattern,
     rows: &[TermRef<N>],
 ) -> Result<Low<N>, NoMemory>
-    ensures { IfOk result (Tells N.shapes sight.now false
+    ensures tells { IfOk result (Tells N.shapes sight.now false
         (AreThere N.shapes op (loose_of sight.now op pattern.now) (terms rows.now))) }
+    ensures says { IfOk result (SaysIf (seeks_inside sight.now (loose_of sight.now op pattern.now))) }
 {
     match &pattern.node {
         PatternNode::Var(_, _) => Ok(Low::Any),
@@ -309,8 +315,9 @@ fn look_inside_all<N: Name, R: Wait>(
     patterns: &[Pattern],
     rows: &[TermRef<N>],
 ) -> Result<Low<N>, NoMemory>
-    ensures { IfOk result (Tells N.shapes sight.now false
+    ensures tells { IfOk result (Tells N.shapes sight.now false
         (AreThere N.shapes op (loose sight.now op patterns.now) (terms rows.now))) }
+    ensures says { IfOk result (SaysIf (seeks_inside sight.now (loose sight.now op patterns.now))) }
 {
     match patterns {
         [] => Ok(Low::Any),
@@ -339,12 +346,20 @@ fn look_left<N: Name, R: Wait>(
     rows: &[TermRef<N>],
 ) -> Result<Low<N>, NoMemory>
     requires ac { IsTrue (spec_ac N.shapes op) }
-    ensures { IfOk result (Tells N.shapes sight.now (list_all (spec_given sight.now) patterns.now)
+    requires ascend { Ascends (terms rows.now) }
+    requires shallow { AreShallow (terms rows.now) }
+    ensures tells { IfOk result (Tells N.shapes sight.now (list_all (spec_given sight.now) patterns.now)
         (Serve N.shapes op (loose sight.now op patterns.now) (terms rows.now))) }
+    ensures says { IfOk result (SaysIf (list_any (seeks sight.now) patterns.now)) }
 {
     let counts = count_all(sight, op, patterns, Counts::none())?;
     if counts.may_be_served(rows.len()) {
-        look_inside_all(rt, alloc, table, sight, op, patterns, rows)
+        let own = look_own(rt, alloc, table, sight, op, &counts, rows)?;
+        if own.is_empty() {
+            return Ok(Low::Empty);
+        }
+        let inside = look_inside_all(rt, alloc, table, sight, op, patterns, rows)?;
+        Ok(own.meet(table, inside))
     } else {
         Ok(Low::Empty)
     }
@@ -364,8 +379,10 @@ fn look_under<N: Name, R: Wait>(
 ) -> Result<Low<N>, NoMemory>
     requires ac { IsTrue (spec_ac N.shapes op) }
     requires ascend { Ascends (terms rows.now) }
-    ensures { IfOk result (Tells N.shapes sight.now (list_all (spec_given sight.now) patterns.now)
+    requires shallow { AreShallow (terms rows.now) }
+    ensures tells { IfOk result (Tells N.shapes sight.now (list_all (spec_given sight.now) patterns.now)
         (MakeNode N.shapes op patterns.now (terms rows.now))) }
+    ensures says { IfOk result (SaysIf (list_any (seeks sight.now) patterns.now)) }
 {
     let all = copy_rows(alloc, rows)?;
     match take_all(rt, alloc, table, sight, op, patterns, all)? {

@@ -1,6 +1,8 @@
 use Rattle.std.proofs.Common.{◌*◌, ◌+◌, length}
 use Rattle.elan_terms.specs.Weight.{pattern_weight, pattern_weights}
 use Rattle.elan_table.specs.Rows.{terms}
+use Rattle.elan_look.specs.Sights.{seeks}
+use Rattle.elan_look.specs.Tells.{SaysIf}
 use Rattle.elan_look.proofs.NodeLemmas.{Passes, Covers}
 use Rattle.elan_look.proofs.walk.+walk.Given as goal
 
@@ -44,9 +46,12 @@ invariant-find-rows g l = Passes g.N.Name.shapes l.sight l.pattern (terms l.fn.r
 abbrev pub decreases-find-rows : goal.decreases-find-rows
 decreases-find-rows g l = length l.left
 
--- the bound covers the rows that were passed
+-- the bound covers the rows that were passed, and says something where the sought variable stands in the pattern
 abbrev pub invariant-look_among-rows : goal.invariant-look_among-rows
-invariant-look_among-rows g l = Covers g.N.Name.shapes l.sight l.pattern (terms l.fn.rows) (terms l.left) l.low
+invariant-look_among-rows g l = record {
+  covers : Covers g.N.Name.shapes l.sight l.pattern (terms l.fn.rows) (terms l.left) l.low;
+  says : SaysIf (seeks l.sight l.pattern) l.low;
+}
 
 abbrev pub decreases-look_among-rows : goal.decreases-look_among-rows
 decreases-look_among-rows g l = length l.left

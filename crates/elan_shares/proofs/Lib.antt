@@ -1,0 +1,6 @@
+pub mod RowLemmas
+pub mod SizeLemmas
+pub mod SingleLemmas
+pub mod ChoiceLemmas
+pub mod NodeLemmas
+pub mod ShareLemmas

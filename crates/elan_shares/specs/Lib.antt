@@ -1,0 +1,5 @@
+pub mod Shares
+pub mod Sizes
+pub mod Singles
+pub mod Nodes
+pub mod Lesser

@@ -1,9 +1,5 @@
-//! Tests of the outlines of streams: calls with ample memory, and what no clause says.
+//! Tests of the outlines of loaded texts. Outlines of whole streams are cases of `elan_cases`.
 #![tactic(auto)]
 
 #[cfg(test)]
-mod numbered;
-#[cfg(test)]
 mod outlines;
-#[cfg(test)]
-mod trees;

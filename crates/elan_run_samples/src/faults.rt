@@ -1,12 +1,10 @@
 //! Runs whose sources, sinks and loaders fail.
 
 use crate::programs::{LIST, LIST_WITH_ANOTHER_SPELLING, NUMS};
-use crate::rows::{BOTH, Row, TWO_OF_A_LIST, input, lists, outcome_with};
-use elan_loaders::{Loader, MemoryLoader};
+use crate::rows::{BOTH, NO_READING, Row, TWO_OF_A_LIST, both, gives, having, input, lists};
+use elan_loaders::Loader;
 use elan_run::{Status, run_plain};
 use elan_text::{Code, MemorySink, MemorySource};
-use std::alloc::Global;
-use std::collections::BTreeMap;
 use std::test::Fail;
 
 /// Two equal results of one query, in 45 bytes.
@@ -63,40 +61,28 @@ fn a_source_that_fails_writes_nothing(rt: HostRuntime) -> Result<(), Fail> {
     Ok(())
 }
 
-/// A loader that has no text of a name.
-fn no_lists(alloc: Global) -> MemoryLoader {
-    MemoryLoader::new(alloc, BTreeMap::new(alloc), Vec::new(alloc))
-}
-
 #[test]
 fn a_loader_that_fails_writes_nothing(rt: HostRuntime) -> Result<(), Fail> {
     let alloc = rt.alloc();
-    let stream = input(alloc, &TWO_OF_A_LIST)?;
-    let mut loaders: Vec<Box<dyn Loader>> = Vec::new(alloc);
-    loaders.push(Box::new(alloc, lists(alloc, LIST, [1].to_vec(alloc)?)?)?)?;
-    let other = lists(alloc, LIST_WITH_ANOTHER_SPELLING, Vec::new(alloc))?;
-    loaders.push(Box::new(alloc, other)?)?;
-    let (status, written) = outcome_with(alloc, stream.as_slice(), &mut loaders)?;
-    assert_eq!(rt; written.len(), 0);
-    assert_eq!(rt; status, Status::LoaderFault);
-    Ok(())
+    let first = lists(alloc, LIST, &[1])?;
+    let second = lists(alloc, LIST_WITH_ANOTHER_SPELLING, &[])?;
+    let mut loaders = both(alloc, first, second)?;
+    gives(&rt, &TWO_OF_A_LIST, &mut loaders, Status::LoaderFault, b"")
 }
 
 #[test]
 fn a_loader_that_is_not_asked_does_not_fail(rt: HostRuntime) -> Result<(), Fail> {
     let alloc = rt.alloc();
-    let stream = input(alloc, &TWO_OF_A_LIST)?;
-    let mut loaders: Vec<Box<dyn Loader>> = Vec::new(alloc);
-    let other = lists(alloc, LIST_WITH_ANOTHER_SPELLING, Vec::new(alloc))?;
-    loaders.push(Box::new(alloc, other)?)?;
-    loaders.push(Box::new(alloc, lists(alloc, LIST, [1].to_vec(alloc)?)?)?)?;
-    let (status, written) = outcome_with(alloc, stream.as_slice(), &mut loaders)?;
-    assert_eq!(rt;
-        written.as_slice(),
-        b"error E15 10:1 no reading\n".as_slice()
-    );
-    assert_eq!(rt; status, Status::Refused(Code::E15));
-    Ok(())
+    let first = lists(alloc, LIST_WITH_ANOTHER_SPELLING, &[])?;
+    let second = lists(alloc, LIST, &[1])?;
+    let mut loaders = both(alloc, first, second)?;
+    gives(
+        &rt,
+        &TWO_OF_A_LIST,
+        &mut loaders,
+        Status::Refused(Code::E15),
+        NO_READING,
+    )
 }
 
 #[test]
@@ -104,12 +90,8 @@ fn a_loader_that_fails_behind_one_without_the_text_writes_nothing(
     rt: HostRuntime,
 ) -> Result<(), Fail> {
     let alloc = rt.alloc();
-    let stream = input(alloc, &TWO_OF_A_LIST)?;
-    let mut loaders: Vec<Box<dyn Loader>> = Vec::new(alloc);
-    loaders.push(Box::new(alloc, no_lists(alloc))?)?;
-    loaders.push(Box::new(alloc, lists(alloc, LIST, [1].to_vec(alloc)?)?)?)?;
-    let (status, written) = outcome_with(alloc, stream.as_slice(), &mut loaders)?;
-    assert_eq!(rt; written.len(), 0);
-    assert_eq!(rt; status, Status::LoaderFault);
-    Ok(())
+    let first = having(alloc, "other", LIST, &[])?;
+    let second = lists(alloc, LIST, &[1])?;
+    let mut loaders = both(alloc, first, second)?;
+    gives(&rt, &TWO_OF_A_LIST, &mut loaders, Status::LoaderFault, b"")
 }

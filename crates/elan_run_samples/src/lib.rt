@@ -1,4 +1,5 @@
-//! Tests of whole runs: small programs with what they write, and refusals with their places.
+//! Tests of whole runs whose sources, sinks, loaders or words are out of the common. Programs with what they write are cases of
+//! `elan_cases`.
 #![tactic(auto)]
 
 #[cfg(test)]
@@ -11,7 +12,5 @@ mod places;
 mod programs;
 #[cfg(test)]
 mod rows;
-#[cfg(test)]
-mod strategies;
 #[cfg(test)]
 mod words;

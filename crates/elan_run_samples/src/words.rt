@@ -1,12 +1,10 @@
 //! Runs with words on the command line.
 
-use crate::programs::NUMS;
-use crate::rows::{BOTH, Row, input};
+use crate::rows::{BOTH, input};
 use elan_loaders::Loader;
 use elan_run::{Status, run_plain};
 use elan_text::{MemorySink, MemorySource, NoMemory};
 use std::alloc::Global;
-use std::process::Abort;
 use std::test::Fail;
 
 /// These words as they are handed to a run.
@@ -31,77 +29,6 @@ fn outcome_of(
     let mut sink = MemorySink::new(alloc, 1_000, Vec::new(alloc));
     let status = run_plain(alloc, words.as_slice(), &mut source, &mut none, &mut sink);
     Ok((status, sink.written().to_vec(alloc)?))
-}
-
-/// With its words each row writes its text, and is done.
-fn are_done_with<R: Abort + AllocGlobal>(rt: &R, rows: &[(&[&str], Row<'_>)]) -> Result<(), Fail> {
-    let alloc = rt.alloc();
-    for row in rows {
-        let stream = input(alloc, &row.1)?;
-        let (status, written) = outcome_of(alloc, row.0, stream.as_slice(), Vec::new(alloc))?;
-        assert_eq!(rt; written.as_slice(), row.1.5);
-        assert_eq!(rt; status, Status::Done);
-    }
-    Ok(())
-}
-
-/// A start strategy on an integer.
-fn on_integers<'a>(start: &'a [u8], query: &'a [u8], text: &'a [u8]) -> Row<'a> {
-    (NUMS, b"nums", b"int", start, query, text)
-}
-
-#[test]
-fn a_limit_cuts_the_report(rt: HostRuntime) -> Result<(), Fail> {
-    are_done_with(
-        &rt,
-        &[
-            (
-                &["--limit", "2"],
-                on_integers(
-                    b"dk(r1,r2)",
-                    b"0",
-                    b"[1] result term: 1\n[2] result term: 1\n[] limit\n",
-                ),
-            ),
-            (
-                &["--limit=1"],
-                on_integers(b"dk(r1,r2)", b"0", b"[1] result term: 1\n[] limit\n"),
-            ),
-            (
-                &["--limit", "3", "--plain", "--workers", "64"],
-                on_integers(
-                    b"dk(r1,r2)",
-                    b"0",
-                    b"[1] result term: 1\n[2] result term: 1\n[] end\n",
-                ),
-            ),
-        ],
-    )
-}
-
-#[test]
-fn steps_bound_each_path(rt: HostRuntime) -> Result<(), Fail> {
-    are_done_with(
-        &rt,
-        &[
-            (
-                &["--steps", "3"],
-                on_integers(
-                    b"iterate*(inc)",
-                    b"0",
-                    b"[1] result term: 0\n[2] result term: 1\n[3] out of steps\n[] end\n",
-                ),
-            ),
-            (
-                &["--steps=3"],
-                on_integers(
-                    b"iterate+(inc)",
-                    b"0",
-                    b"[1] result term: 1\n[2] out of steps\n[] end\n",
-                ),
-            ),
-        ],
-    )
 }
 
 #[test]

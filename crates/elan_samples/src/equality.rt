@@ -1,56 +1,14 @@
+//! Equality modulo associativity and commutativity, and laws.
+
+use crate::spelled::{sets, term};
 use elan_laws::equal_modulo;
 use elan_laws::laws::{
     canonical_form, equality_modulo_ac, injections_end, instances_are_canonical, matches_once,
     order_by_heads, order_is_total, parts_ascend, sorts_are_kept,
 };
-use elan_terms::{NoMemory, OpId, Shape, Shapes, SortId, Term, TermNode};
-use sqlite_items::Items;
+use elan_terms::NoMemory;
 use std::alloc::Global;
 use std::test::Fail;
-
-fn shape(alloc: Global, args: &[SortId], ac: bool) -> Result<Shape, NoMemory> {
-    Ok(Shape {
-        args: Items::from_slice(alloc, args)?,
-        sort: SortId(0),
-        ac,
-    })
-}
-
-// a, b and c are the constants 0, 1 and 2; 3 is the associative and commutative U.
-fn sets(alloc: Global) -> Result<Shapes, NoMemory> {
-    let mut shapes = Items::new(alloc);
-    for _ in 0..3 {
-        shapes.push(shape(alloc, &[], false)?)?;
-    }
-    shapes.push(shape(alloc, &[SortId(0), SortId(0)], true)?)?;
-    Ok(Shapes { shapes, int: None })
-}
-
-fn constant(alloc: Global, number: u32) -> Term {
-    Term {
-        node: TermNode::App(OpId(number), Items::new(alloc)),
-    }
-}
-
-fn union(alloc: Global, first: Term, second: Term) -> Result<Term, NoMemory> {
-    let mut args = Items::new(alloc);
-    args.push(first)?;
-    args.push(second)?;
-    Ok(Term {
-        node: TermNode::App(OpId(3), args),
-    })
-}
-
-// U over the constants of these numbers.
-fn union_of(alloc: Global, numbers: &[u32]) -> Result<Term, NoMemory> {
-    let mut args = Items::new(alloc);
-    for number in numbers {
-        args.push(constant(alloc, *number))?;
-    }
-    Ok(Term {
-        node: TermNode::App(OpId(3), args),
-    })
-}
 
 #[test]
 fn a_law_does_nothing() {
@@ -65,22 +23,23 @@ fn a_law_does_nothing() {
     injections_end();
 }
 
+fn are_equal(alloc: Global, left: &[u8], right: &[u8]) -> Result<bool, NoMemory> {
+    let shapes = sets(alloc)?;
+    let left = term(alloc, left)?;
+    let right = term(alloc, right)?;
+    equal_modulo(alloc, &shapes, &left, &right)
+}
+
 #[test]
 fn brackets_and_places_do_not_matter_but_arguments_do(rt: HostRuntime) -> Result<(), Fail> {
-    let alloc = rt.alloc();
-    let shapes = sets(alloc)?;
-    let left = union(alloc, union_of(alloc, &[2, 0])?, constant(alloc, 1))?;
-    let right = union(alloc, constant(alloc, 0), union_of(alloc, &[1, 2])?)?;
-    assert!(rt; equal_modulo(alloc, &shapes, &left, &right)?);
-    assert!(rt; equal_modulo(alloc, &shapes, &left, &union_of(alloc, &[1, 2, 0])?)?);
-    assert!(rt; !equal_modulo(alloc, &shapes, &left, &union_of(alloc, &[0, 1])?)?);
-    assert!(rt;
-        !equal_modulo(
-            alloc,
-            &shapes,
-            &union_of(alloc, &[0, 0])?,
-            &constant(alloc, 0)
-        )?
-    );
+    let rows = [
+        (b"ca2b2".as_slice(), b"abc22".as_slice(), true),
+        (b"ca2b2", b"bca3", true),
+        (b"ca2b2", b"ab2", false),
+        (b"aa2", b"a", false),
+    ];
+    for (left, right, wanted) in rows {
+        assert_eq!(rt; are_equal(rt.alloc(), left, right)?, wanted);
+    }
     Ok(())
 }

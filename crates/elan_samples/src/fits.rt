@@ -176,10 +176,14 @@ fn two_variables_part_a_union_of_three_in_six_ways(rt: HostRuntime) -> Result<()
 fn a_variable_twice_under_a_union_takes_each_half(rt: HostRuntime) -> Result<(), Fail> {
     let alloc = rt.alloc();
     let pattern = over(alloc, UNION, variable(0, SortId(0)), variable(0, SortId(0)))?;
-    let found = all(alloc, &pattern, &union(alloc, &[0, 0, 1, 1])?)?;
-    assert_eq!(rt; found.as_str(), "ab, ");
-    let odd = all(alloc, &pattern, &union(alloc, &[0, 0, 1])?)?;
-    assert_eq!(rt; odd.as_str(), "");
+    let rows = [
+        ([0, 0, 1, 1].as_slice(), "ab, "),
+        ([0, 0, 1].as_slice(), ""),
+    ];
+    for (numbers, wanted) in rows {
+        let found = all(alloc, &pattern, &union(alloc, numbers)?)?;
+        assert_eq!(rt; found.as_str(), wanted);
+    }
     Ok(())
 }
 
@@ -194,33 +198,34 @@ fn a_place_outside_a_union_decides_for_one_inside(rt: HostRuntime) -> Result<(),
     Ok(())
 }
 
+/// The U of `c` and the pairs of `a` with `b` and of `b` with `a`.
+fn pairs_in_union(alloc: Global) -> Result<Term, NoMemory> {
+    let mut args = Items::new(alloc);
+    args.push(constant(alloc, 2))?;
+    args.push(constants(alloc, 0, 1)?)?;
+    args.push(constants(alloc, 1, 0)?)?;
+    Ok(Term {
+        node: TermNode::App(UNION, args),
+    })
+}
+
 #[test]
 fn a_pair_in_a_union_takes_the_pair_that_is_there(rt: HostRuntime) -> Result<(), Fail> {
     let alloc = rt.alloc();
     let inner = over(alloc, PAIR, variable(0, SortId(0)), variable(1, SortId(0)))?;
     let pattern = over(alloc, UNION, inner, variable(2, SortId(0)))?;
-    let mut args = Items::new(alloc);
-    args.push(constant(alloc, 2))?;
-    args.push(couple(alloc, constant(alloc, 0), constant(alloc, 1))?)?;
-    args.push(couple(alloc, constant(alloc, 1), constant(alloc, 0))?)?;
-    let term = Term {
-        node: TermNode::App(UNION, args),
-    };
-    let found = all(alloc, &pattern, &term)?;
+    let found = all(alloc, &pattern, &pairs_in_union(alloc)?)?;
     assert_eq!(rt; found.as_str(), "a,b,c(ba, b,a,c(ab, ");
     Ok(())
 }
 
-#[test]
-fn a_walk_gives_one_match_at_a_time_and_then_none(rt: HostRuntime) -> Result<(), Fail> {
-    let alloc = rt.alloc();
+/// The first four answers of a walk, `-` where there is no match.
+fn walked(alloc: Global, pattern: &Pattern, term: &Term) -> Result<String, NoMemory> {
     let shapes = sets(alloc)?;
-    let pattern = over(alloc, UNION, variable(0, SortId(0)), variable(1, SortId(0)))?;
-    let term = union(alloc, &[0, 1])?;
-    if !is_valid(&shapes, &term) || !is_canonical(&shapes, &term) {
-        return Err(Fail::from(AllocError));
+    if !is_valid(&shapes, term) || !is_canonical(&shapes, term) {
+        return Err(AllocError);
     }
-    let mut walk = Walk::new(alloc, &shapes, &pattern, &term)?;
+    let mut walk = Walk::new(alloc, &shapes, pattern, term)?;
     let mut text = String::new(alloc);
     for _ in 0..4 {
         match walk.next(alloc)? {
@@ -228,17 +233,42 @@ fn a_walk_gives_one_match_at_a_time_and_then_none(rt: HostRuntime) -> Result<(),
             Some(values) => spell_match(&mut text, values.as_slice())?,
         }
     }
-    assert_eq!(rt; text.as_str(), "a,b, b,a, --");
+    Ok(text)
+}
+
+#[test]
+fn a_walk_gives_one_match_at_a_time_and_then_none(rt: HostRuntime) -> Result<(), Fail> {
+    let alloc = rt.alloc();
+    let pattern = over(alloc, UNION, variable(0, SortId(0)), variable(1, SortId(0)))?;
+    let found = walked(alloc, &pattern, &union(alloc, &[0, 1])?)?;
+    assert_eq!(rt; found.as_str(), "a,b, b,a, --");
+    Ok(())
+}
+
+/// The pair of two constants of these numbers.
+fn constants(alloc: Global, left: u32, right: u32) -> Result<Term, NoMemory> {
+    couple(alloc, constant(alloc, left), constant(alloc, right))
+}
+
+#[test]
+fn a_plain_variable_twice_takes_equal_terms(rt: HostRuntime) -> Result<(), Fail> {
+    let pattern = twice(rt.alloc())?;
+    let rows = [(0u32, 0u32, "a, "), (1, 0, "-")];
+    for (left, right, wanted) in rows {
+        let term = constants(rt.alloc(), left, right)?;
+        assert_eq!(rt; one(rt.alloc(), &pattern, 0, &term)?.as_str(), wanted);
+    }
     Ok(())
 }
 
 #[test]
 fn plain_variables_take_what_stands_in_their_places(rt: HostRuntime) -> Result<(), Fail> {
-    let alloc = rt.alloc();
-    let same = couple(alloc, constant(alloc, 0), constant(alloc, 0))?;
-    let other = couple(alloc, constant(alloc, 1), union(alloc, &[0, 1])?)?;
-    assert_eq!(rt; one(alloc, &twice(alloc)?, 0, &same)?.as_str(), "a, ");
-    assert_eq!(rt; one(alloc, &twice(alloc)?, 0, &other)?.as_str(), "-");
-    assert_eq!(rt; one(alloc, &both(alloc)?, 7, &other)?.as_str(), "b,ab, ");
+    let pattern = both(rt.alloc())?;
+    let term = couple(
+        rt.alloc(),
+        constant(rt.alloc(), 1),
+        union(rt.alloc(), &[0, 1])?,
+    )?;
+    assert_eq!(rt; one(rt.alloc(), &pattern, 7, &term)?.as_str(), "b,ab, ");
     Ok(())
 }

@@ -14,4 +14,6 @@ mod programs;
 #[cfg(test)]
 mod readings;
 #[cfg(test)]
+mod spelled;
+#[cfg(test)]
 mod terms;

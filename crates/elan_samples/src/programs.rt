@@ -92,15 +92,12 @@ fn numbers_onto(numbers: &mut Vec<u32>, pattern: &Pattern) -> Result<(), NoMemor
     Ok(())
 }
 
-#[test]
-fn an_extension_leaves_a_number_for_its_variable(rt: HostRuntime) -> Result<(), Fail> {
-    let alloc = rt.alloc();
-    let found = extension(alloc, &signature(alloc)?, &rule(alloc, 0)?)?;
-    assert!(rt; found.is_some());
-    let Some(longer) = found else {
-        return Ok(());
-    };
+/// The numbers of the variables of a rule, its clauses last; none where there is no rule.
+fn numbers_of(alloc: Global, found: Option<Rule>) -> Result<Vec<u32>, NoMemory> {
     let mut numbers = Vec::new(alloc);
+    let Some(longer) = found else {
+        return Ok(numbers);
+    };
     numbers_onto(&mut numbers, &longer.left)?;
     numbers_onto(&mut numbers, &longer.right)?;
     for clause in longer.clauses.as_slice() {
@@ -109,6 +106,14 @@ fn an_extension_leaves_a_number_for_its_variable(rt: HostRuntime) -> Result<(), 
             numbers_onto(&mut numbers, of)?;
         }
     }
+    Ok(numbers)
+}
+
+#[test]
+fn an_extension_leaves_a_number_for_its_variable(rt: HostRuntime) -> Result<(), Fail> {
+    let alloc = rt.alloc();
+    let found = extension(alloc, &signature(alloc)?, &rule(alloc, 0)?)?;
+    let numbers = numbers_of(alloc, found)?;
     assert_eq!(rt; numbers.as_slice(), [0, 1, 2, 3, 2, 3, 0].as_slice());
     Ok(())
 }
@@ -134,38 +139,60 @@ fn program(alloc: Global, parts: Parts) -> Result<Option<Program>, NoMemory> {
     }
 }
 
+/// The numbers of the variables on the left sides of the unlabelled rules; none where the parts are not valid.
+fn left_numbers(alloc: Global) -> Result<Vec<u32>, NoMemory> {
+    let mut numbers = Vec::new(alloc);
+    if let Some(program) = program(alloc, parts(alloc)?)? {
+        for rule in program.unlabelled() {
+            numbers_onto(&mut numbers, &rule.left)?;
+        }
+    }
+    Ok(numbers)
+}
+
 #[test]
 fn an_extension_stands_directly_after_its_rule(rt: HostRuntime) -> Result<(), Fail> {
-    let alloc = rt.alloc();
-    let found = program(alloc, parts(alloc)?)?;
-    assert!(rt; found.is_some());
-    let Some(program) = found else {
-        return Ok(());
-    };
-    let mut numbers = Vec::new(alloc);
-    for rule in program.unlabelled() {
-        numbers_onto(&mut numbers, &rule.left)?;
-    }
+    let numbers = left_numbers(rt.alloc())?;
     assert_eq!(rt; numbers.as_slice(), [0, 1, 0, 1, 2, 0, 1].as_slice());
-    assert_eq!(rt; program.rules().len(), 2);
-    assert!(rt; program.named().is_empty());
-    assert_eq!(rt; program.signature().operators.len(), 2);
-    assert_eq!(rt; program.parts().rules.len(), 2);
     Ok(())
+}
+
+/// How many rules, named strategies and operators a program has, and how many rules its parts have.
+fn counts(program: &Program) -> (usize, usize, usize, usize) {
+    (
+        program.rules().len(),
+        program.named().len(),
+        program.signature().operators.len(),
+        program.parts().rules.len(),
+    )
+}
+
+#[test]
+fn a_program_has_its_parts(rt: HostRuntime) -> Result<(), Fail> {
+    let found = program(rt.alloc(), parts(rt.alloc())?)?;
+    assert_eq!(rt; found.map(|program| counts(&program)), Some((2, 0, 2, 2)));
+    Ok(())
+}
+
+/// Whether the first rule of a program has an extension, and the second.
+fn extended(program: &Program) -> (bool, bool) {
+    if program.rules().len() == 2 {
+        (
+            program.extension(0).is_some(),
+            program.extension(1).is_some(),
+        )
+    } else {
+        (false, true)
+    }
 }
 
 #[test]
 fn a_program_keeps_the_extension_of_a_rule(rt: HostRuntime) -> Result<(), Fail> {
-    let alloc = rt.alloc();
-    let found = program(alloc, parts(alloc)?)?;
-    assert!(rt; found.is_some());
-    let Some(program) = found else {
-        return Ok(());
-    };
-    let with = program.rules().len() == 2 && program.extension(0).is_some();
-    assert!(rt; with);
-    let without = program.rules().len() == 2 && program.extension(1).is_none();
-    assert!(rt; without);
+    let found = program(rt.alloc(), parts(rt.alloc())?)?;
+    assert_eq!(rt;
+        found.map(|program| extended(&program)),
+        Some((true, false))
+    );
     Ok(())
 }
 
@@ -254,10 +281,30 @@ fn by_label(alloc: Global, numbers: &[u32]) -> Result<Items<Clause>, NoMemory> {
     Ok(clauses)
 }
 
+/// Whether parts with a rule of this fault are valid.
+fn is_valid_with_rule(alloc: Global, fault: Fault) -> Result<bool, NoMemory> {
+    let mut faulty = parts(alloc)?;
+    faulty.rules.push(faulty_rule(alloc, fault)?)?;
+    faulty.is_valid(alloc)
+}
+
+/// Whether parts with an operator of this fault are valid.
+fn is_valid_with_operator(alloc: Global, fault: Fault) -> Result<bool, NoMemory> {
+    let mut faulty = parts(alloc)?;
+    let operator = faulty_operator(alloc, fault)?;
+    faulty.signature.operators.push(operator)?;
+    faulty.is_valid(alloc)
+}
+
 #[test]
-fn parts_with_a_fault_are_not_valid(rt: HostRuntime) -> Result<(), Fail> {
-    let alloc = rt.alloc();
-    assert!(rt; parts(alloc)?.is_valid(alloc)?);
+fn parts_without_a_fault_are_valid(rt: HostRuntime) -> Result<(), Fail> {
+    let parts = parts(rt.alloc())?;
+    assert!(rt; parts.is_valid(rt.alloc())?);
+    Ok(())
+}
+
+#[test]
+fn rules_with_a_fault_are_not_valid(rt: HostRuntime) -> Result<(), Fail> {
     for fault in [
         Fault::SortThatIsNotThere,
         Fault::LeftSideOfAnotherSort,
@@ -267,21 +314,19 @@ fn parts_with_a_fault_are_not_valid(rt: HostRuntime) -> Result<(), Fail> {
         Fault::LabelThatDoesNotAscend,
         Fault::IfWithoutTruth,
     ] {
-        let mut faulty = parts(alloc)?;
-        faulty.rules.push(faulty_rule(alloc, fault)?)?;
-        assert!(rt; !faulty.is_valid(alloc)?);
+        assert!(rt; !is_valid_with_rule(rt.alloc(), fault)?);
     }
+    Ok(())
+}
+
+#[test]
+fn operators_with_a_fault_are_not_valid(rt: HostRuntime) -> Result<(), Fail> {
     for fault in [
         Fault::InjectionIntoItself,
         Fault::WordThatIsReserved,
         Fault::HoleTooMany,
     ] {
-        let mut faulty = parts(alloc)?;
-        faulty
-            .signature
-            .operators
-            .push(faulty_operator(alloc, fault)?)?;
-        assert!(rt; !faulty.is_valid(alloc)?);
+        assert!(rt; !is_valid_with_operator(rt.alloc(), fault)?);
     }
     Ok(())
 }
@@ -372,37 +417,63 @@ fn a_congruence_has_a_strategy_for_each_argument(rt: HostRuntime) -> Result<(), 
 
 #[test]
 fn shapes_keep_what_terms_need(rt: HostRuntime) -> Result<(), Fail> {
-    let alloc = rt.alloc();
-    let signature = signature(alloc)?;
-    let shapes = signature.shapes(alloc)?;
-    assert_eq!(rt; shapes.shapes.len(), 2);
-    assert_eq!(rt; shapes.int, Some(SORT));
-    assert_eq!(rt; signature.is_ac(OpId(0)), true);
-    assert_eq!(rt; signature.is_ac(OpId(2)), false);
-    assert_eq!(rt; signature.builtin(OpId(1)), Some(Builtin::Add));
+    let shapes = signature(rt.alloc())?.shapes(rt.alloc())?;
+    assert_eq!(rt; (shapes.shapes.len(), shapes.int), (2, Some(SORT)));
     Ok(())
 }
 
 #[test]
-fn copies_have_the_same_parts(rt: HostRuntime) -> Result<(), Fail> {
-    let alloc = rt.alloc();
-    let name = Name::new(alloc, b"inc".as_slice())?;
-    let copy = name.copy(alloc)?;
-    assert_eq!(rt; copy.as_bytes(), b"inc".as_slice());
-    assert!(rt; copy == name);
-    let again = copy_rule(alloc, &rule(alloc, 0)?)?;
-    for clause in again.clauses.as_slice() {
-        let whole = Strategy {
-            node: StrategyNode::Repeat(Boxed::new(
-                alloc,
-                Strategy {
-                    node: StrategyNode::Call(7, Items::new(alloc)),
-                },
-            )?),
-        };
-        assert!(rt; matches!(copy_clause(alloc, clause)?, Clause::Where { .. }));
-        assert!(rt; matches!(copy_strategy(alloc, &whole)?.node, StrategyNode::Repeat(_)));
+fn a_signature_tells_what_an_operator_is(rt: HostRuntime) -> Result<(), Fail> {
+    let signature = signature(rt.alloc())?;
+    let rows = [
+        (0u32, true, None),
+        (1, false, Some(Builtin::Add)),
+        (2, false, None),
+    ];
+    for (number, ac, builtin) in rows {
+        let op = OpId(number);
+        assert_eq!(rt; (signature.is_ac(op), signature.builtin(op)), (ac, builtin));
     }
-    assert_eq!(rt; again.clauses.len(), 1);
+    Ok(())
+}
+
+#[test]
+fn a_copy_of_a_name_has_its_bytes(rt: HostRuntime) -> Result<(), Fail> {
+    let name = Name::new(rt.alloc(), b"inc".as_slice())?;
+    let copy = name.copy(rt.alloc())?;
+    assert_eq!(rt; copy.as_bytes(), b"inc".as_slice());
+    Ok(())
+}
+
+/// How many clauses the copy of a rule has, and how many of them copy to one with `where`.
+fn copied(alloc: Global) -> Result<(usize, u32), NoMemory> {
+    let again = copy_rule(alloc, &rule(alloc, 0)?)?;
+    let mut wheres = 0u32;
+    for clause in again.clauses.as_slice() {
+        if let Clause::Where { .. } = copy_clause(alloc, clause)? {
+            wheres = wheres.saturating_add(1);
+        }
+    }
+    Ok((again.clauses.len(), wheres))
+}
+
+#[test]
+fn a_copy_of_a_rule_has_its_clauses(rt: HostRuntime) -> Result<(), Fail> {
+    let found = copied(rt.alloc())?;
+    assert_eq!(rt; found, (1, 1));
+    Ok(())
+}
+
+#[test]
+fn a_copy_of_a_strategy_has_its_kind(rt: HostRuntime) -> Result<(), Fail> {
+    let alloc = rt.alloc();
+    let call = Strategy {
+        node: StrategyNode::Call(7, Items::new(alloc)),
+    };
+    let whole = Strategy {
+        node: StrategyNode::Repeat(Boxed::new(alloc, call)?),
+    };
+    let copy = copy_strategy(alloc, &whole)?;
+    assert!(rt; matches!(copy.node, StrategyNode::Repeat(_)));
     Ok(())
 }

@@ -1,80 +1,53 @@
+//! Terms: parts, canonical forms, matches, depth and validity.
+
+use crate::spelled::{sets, spell_onto, term};
 use elan_terms::{
-    NoMemory, OpId, Pattern, PatternNode, Shape, Shapes, SortId, Term, TermNode, canon, compare,
-    copy, depth, is_ascending, is_canonical, is_deeper, is_valid, matches, parts,
+    NoMemory, OpId, Pattern, PatternNode, SortId, Term, canon, compare, copy, depth, is_ascending,
+    is_canonical, is_deeper, is_valid, matches, parts,
 };
 use sqlite_items::Items;
 use std::alloc::Global;
 use std::cmp::Ordering;
 use std::test::Fail;
 
-// a, b and c are the constants 0, 1 and 2; 3 is the associative and commutative U.
-fn sets(alloc: Global) -> Result<Shapes, NoMemory> {
-    let mut shapes = Items::new(alloc);
-    for _ in 0..3 {
-        shapes.push(Shape {
-            args: Items::new(alloc),
-            sort: SortId(0),
-            ac: false,
-        })?;
+/// Each part with a space behind it.
+fn parts_of(alloc: Global, letters: &[u8]) -> Result<String, NoMemory> {
+    let shapes = sets(alloc)?;
+    let all = parts(alloc, &shapes, &term(alloc, letters)?)?;
+    let mut text = String::new(alloc);
+    for part in all.as_slice() {
+        spell_onto(&mut text, part)?;
+        text.push(' ')?;
     }
-    shapes.push(Shape {
-        args: Items::from_slice(alloc, &[SortId(0), SortId(0)])?,
-        sort: SortId(0),
-        ac: true,
-    })?;
-    Ok(Shapes { shapes, int: None })
+    Ok(text)
 }
 
-// The same, with integers, of which 4 makes a set.
-fn sets_of_integers(alloc: Global) -> Result<Shapes, NoMemory> {
-    let mut shapes = sets(alloc)?;
-    shapes.shapes.push(Shape {
-        args: Items::from_slice(alloc, &[SortId(1)])?,
-        sort: SortId(0),
-        ac: false,
-    })?;
-    shapes.int = Some(SortId(1));
-    Ok(shapes)
+#[test]
+fn a_union_of_three_has_seven_parts(rt: HostRuntime) -> Result<(), Fail> {
+    let found = parts_of(rt.alloc(), b"abc3")?;
+    assert_eq!(rt; found.as_str(), "a b c ab ac bc abc ");
+    Ok(())
 }
 
-fn integer(value: i64) -> Term {
-    Term {
-        node: TermNode::Int(value),
-    }
+/// How the canonical form of the first stands to the second.
+fn form_against(alloc: Global, letters: &[u8], other: &[u8]) -> Result<Ordering, NoMemory> {
+    let shapes = sets(alloc)?;
+    let made = canon(alloc, &shapes, &term(alloc, letters)?)?;
+    Ok(compare(&made, &term(alloc, other)?))
 }
 
-fn constant(alloc: Global, number: u32) -> Term {
-    Term {
-        node: TermNode::App(OpId(number), Items::new(alloc)),
-    }
+#[test]
+fn a_canonical_form_is_flat_and_ascends(rt: HostRuntime) -> Result<(), Fail> {
+    let found = form_against(rt.alloc(), b"ca2b2", b"abc3")?;
+    assert_eq!(rt; found, Ordering::Equal);
+    Ok(())
 }
 
-// U over the constants of these numbers.
-fn union(alloc: Global, numbers: &[u32]) -> Result<Term, NoMemory> {
-    let mut args = Items::new(alloc);
-    for number in numbers {
-        args.push(constant(alloc, *number))?;
-    }
-    Ok(Term {
-        node: TermNode::App(OpId(3), args),
-    })
-}
-
-fn one(alloc: Global, number: u32, arg: Term) -> Result<Term, NoMemory> {
-    let mut args = Items::new(alloc);
-    args.push(arg)?;
-    Ok(Term {
-        node: TermNode::App(OpId(number), args),
-    })
-}
-
-fn pair(alloc: Global, first: Term, second: Term) -> Result<Term, NoMemory> {
-    let mut args = Items::new(alloc);
-    args.push(first)?;
-    args.push(second)?;
-    Ok(Term {
-        node: TermNode::App(OpId(3), args),
-    })
+#[test]
+fn a_copy_is_equal_to_what_it_copies(rt: HostRuntime) -> Result<(), Fail> {
+    let term = term(rt.alloc(), b"ca2b2")?;
+    assert_eq!(rt; compare(&copy(rt.alloc(), &term)?, &term), Ordering::Equal);
+    Ok(())
 }
 
 fn variable(number: u32) -> Pattern {
@@ -92,143 +65,115 @@ fn union_of(alloc: Global, first: u32, second: u32) -> Result<Pattern, NoMemory>
     })
 }
 
-// One character a constant, and those of a U joined.
-fn spelled(alloc: Global, term: &Term) -> Result<String, NoMemory> {
+/// Puts the values of a match to the end, with a comma behind each.
+fn match_onto(text: &mut String, values: &[Term]) -> Result<(), NoMemory> {
+    for value in values {
+        spell_onto(text, value)?;
+        text.push(',')?;
+    }
+    text.push(' ')
+}
+
+/// The matches of the U of two variables of these numbers.
+fn matches_of(alloc: Global, first: u32, second: u32, letters: &[u8]) -> Result<String, NoMemory> {
+    let shapes = sets(alloc)?;
+    let pattern = union_of(alloc, first, second)?;
+    let found = matches(alloc, &shapes, &pattern, &term(alloc, letters)?)?;
     let mut text = String::new(alloc);
-    spell_onto(&mut text, term)?;
+    for values in found.as_slice() {
+        match_onto(&mut text, values.as_slice())?;
+    }
     Ok(text)
 }
 
-fn spell_onto(text: &mut String, term: &Term) -> Result<(), NoMemory> {
-    let TermNode::App(op, args) = &term.node else {
-        return Ok(());
-    };
-    match op.0 {
-        0 => text.push('a')?,
-        1 => text.push('b')?,
-        2 => text.push('c')?,
-        _ => {}
-    }
-    for arg in args.as_slice() {
-        spell_onto(text, arg)?;
-    }
-    Ok(())
-}
-
 #[test]
-fn a_union_of_three_has_seven_parts(rt: HostRuntime) -> Result<(), Fail> {
-    let alloc = rt.alloc();
-    let shapes = sets(alloc)?;
-    let term = union(alloc, &[0, 1, 2])?;
-    let all = parts(alloc, &shapes, &term)?;
-    let mut text = String::new(alloc);
-    for part in all.as_slice() {
-        text.push_str(spelled(alloc, part)?.as_str())?;
-        text.push(' ')?;
-    }
-    assert_eq!(rt; text.as_str(), "a b c ab ac bc abc ");
-    Ok(())
-}
-
-#[test]
-fn a_canonical_form_is_flat_and_ascends(rt: HostRuntime) -> Result<(), Fail> {
-    let alloc = rt.alloc();
-    let shapes = sets(alloc)?;
-    let mut args = Items::new(alloc);
-    args.push(union(alloc, &[2, 0])?)?;
-    args.push(constant(alloc, 1))?;
-    let term = Term {
-        node: TermNode::App(OpId(3), args),
-    };
-    let made = canon(alloc, &shapes, &term)?;
-    assert_eq!(rt; compare(&made, &union(alloc, &[0, 1, 2])?), Ordering::Equal);
-    assert_eq!(rt; compare(&copy(alloc, &term)?, &term), Ordering::Equal);
-    Ok(())
-}
-
-#[test]
-fn two_variables_part_a_union_of_three_in_six_ways(rt: HostRuntime) -> Result<(), Fail> {
-    let alloc = rt.alloc();
-    let shapes = sets(alloc)?;
-    let found = matches(
-        alloc,
-        &shapes,
-        &union_of(alloc, 0, 1)?,
-        &union(alloc, &[0, 1, 2])?,
-    )?;
-    let mut text = String::new(alloc);
-    for values in found.as_slice() {
-        for value in values.as_slice() {
-            text.push_str(spelled(alloc, value)?.as_str())?;
-            text.push(',')?;
-        }
-        text.push(' ')?;
-    }
-    assert_eq!(rt; text.as_str(), "a,bc, b,ac, c,ab, ab,c, ac,b, bc,a, ");
-    Ok(())
-}
-
-#[test]
-fn one_variable_twice_takes_each_half(rt: HostRuntime) -> Result<(), Fail> {
-    let alloc = rt.alloc();
-    let shapes = sets(alloc)?;
-    let found = matches(
-        alloc,
-        &shapes,
-        &union_of(alloc, 0, 0)?,
-        &union(alloc, &[0, 0, 1, 1])?,
-    )?;
-    assert_eq!(rt; found.len(), 1);
-    for values in found.as_slice() {
-        for value in values.as_slice() {
-            assert_eq!(rt; spelled(alloc, value)?.as_str(), "ab");
-        }
+fn variables_part_a_union_in_each_way(rt: HostRuntime) -> Result<(), Fail> {
+    let rows = [
+        (
+            1u32,
+            b"abc3".as_slice(),
+            "a,bc, b,ac, c,ab, ab,c, ac,b, bc,a, ",
+        ),
+        (0, b"aabb4", "ab, "),
+    ];
+    for (second, letters, wanted) in rows {
+        let found = matches_of(rt.alloc(), 0, second, letters)?;
+        assert_eq!(rt; found.as_str(), wanted);
     }
     Ok(())
 }
 
 #[test]
 fn a_constant_has_depth_one(rt: HostRuntime) -> Result<(), Fail> {
-    let alloc = rt.alloc();
-    assert_eq!(rt; depth(&constant(alloc, 0)), 1);
-    assert_eq!(rt; depth(&union(alloc, &[0, 1])?), 2);
-    assert_eq!(rt; is_deeper(&union(alloc, &[0, 1])?, 1), true);
-    assert_eq!(rt; is_deeper(&union(alloc, &[0, 1])?, 2), false);
+    let rows = [(b"a".as_slice(), 1), (b"ab2", 2), (b"ab2c2", 3)];
+    for (letters, wanted) in rows {
+        let term = term(rt.alloc(), letters)?;
+        assert_eq!(rt; depth(&term), wanted);
+    }
+    Ok(())
+}
+
+#[test]
+fn a_term_is_deeper_than_a_number_below_its_depth(rt: HostRuntime) -> Result<(), Fail> {
+    let term = term(rt.alloc(), b"ab2")?;
+    for (number, wanted) in [(0u32, true), (1, true), (2, false), (3, false)] {
+        assert_eq!(rt; is_deeper(&term, number), wanted);
+    }
     Ok(())
 }
 
 #[test]
 fn sorts_and_numbers_of_arguments_make_a_term_valid(rt: HostRuntime) -> Result<(), Fail> {
-    let alloc = rt.alloc();
-    let shapes = sets_of_integers(alloc)?;
-    assert!(rt; is_valid(&shapes, &union(alloc, &[2, 0, 1])?));
-    assert!(rt;
-        is_valid(
-            &shapes,
-            &one(alloc, 4, integer(-9_223_372_036_854_775_807))?
-        )
-    );
-    assert!(rt; !is_valid(&shapes, &union(alloc, &[0])?));
-    assert!(rt; !is_valid(&shapes, &pair(alloc, constant(alloc, 0), integer(7))?));
-    assert!(rt; !is_valid(&shapes, &one(alloc, 4, constant(alloc, 0))?));
-    assert!(rt; !is_valid(&shapes, &one(alloc, 0, constant(alloc, 0))?));
-    assert!(rt; !is_valid(&shapes, &constant(alloc, 4)));
-    assert!(rt; !is_valid(&shapes, &constant(alloc, 5)));
-    assert!(rt; !is_valid(&shapes, &integer(i64::MIN)));
+    let shapes = sets(rt.alloc())?;
+    let rows = [
+        (b"cab3".as_slice(), true),
+        (b"gs", true),
+        (b"a1", false),
+        (b"an2", false),
+        (b"as", false),
+        (b"af", false),
+        (b"e", false),
+        (b"z", false),
+        (b"m", false),
+    ];
+    for (letters, wanted) in rows {
+        let term = term(rt.alloc(), letters)?;
+        assert_eq!(rt; is_valid(&shapes, &term), wanted);
+    }
     Ok(())
 }
 
 #[test]
 fn a_term_that_is_flat_and_ascends_is_canonical(rt: HostRuntime) -> Result<(), Fail> {
-    let alloc = rt.alloc();
-    let shapes = sets(alloc)?;
-    let flat = union(alloc, &[0, 1, 2])?;
-    let nested = pair(alloc, union(alloc, &[0, 1])?, constant(alloc, 2))?;
-    assert!(rt; is_canonical(&shapes, &flat));
-    assert!(rt; is_canonical(&shapes, &union(alloc, &[0, 0, 1])?));
-    assert!(rt; !is_canonical(&shapes, &union(alloc, &[1, 0])?));
-    assert!(rt; !is_canonical(&shapes, &nested));
-    assert!(rt; is_ascending([constant(alloc, 0), constant(alloc, 0), flat].as_slice()));
-    assert!(rt; !is_ascending([nested, integer(3)].as_slice()));
+    let shapes = sets(rt.alloc())?;
+    let rows = [
+        (b"abc3".as_slice(), true),
+        (b"aab3", true),
+        (b"ba2", false),
+        (b"ab2c2", false),
+    ];
+    for (letters, wanted) in rows {
+        let term = term(rt.alloc(), letters)?;
+        assert_eq!(rt; is_canonical(&shapes, &term), wanted);
+    }
+    Ok(())
+}
+
+fn ascend(alloc: Global, first: &[u8], second: &[u8]) -> Result<bool, NoMemory> {
+    let first = term(alloc, first)?;
+    let second = term(alloc, second)?;
+    Ok(is_ascending([first, second].as_slice()))
+}
+
+#[test]
+fn terms_ascend_where_none_stands_before_one_in_front_of_it(rt: HostRuntime) -> Result<(), Fail> {
+    let rows = [
+        (b"a".as_slice(), b"a".as_slice(), true),
+        (b"a", b"abc3", true),
+        (b"ab2c2", b"n", false),
+    ];
+    for (first, second, wanted) in rows {
+        assert_eq!(rt; ascend(rt.alloc(), first, second)?, wanted);
+    }
     Ok(())
 }

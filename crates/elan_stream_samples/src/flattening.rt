@@ -1,10 +1,10 @@
-//! Whole programs, whose instances and refusals were worked out by hand.
+//! Modules that loaders have. Instances and refusals of modules in the stream are cases of `elan_cases`.
 
 use elan_lexer::tokens;
 use elan_loaders::{Loader, MemoryLoader};
 use elan_modules::{Flat, FlattenRefusal, Instance, Origin, flatten};
 use elan_syntax::outline;
-use elan_text::{Name, Place, Refusal};
+use elan_text::{Place, Refusal};
 use std::alloc::Global;
 use std::collections::BTreeMap;
 use std::test::Fail;
@@ -94,116 +94,118 @@ fn show_refusal(alloc: Global, refusal: &Refusal, into: &mut Vec<u8>) -> Result<
     Ok(())
 }
 
-#[test]
-fn modules_of_the_stream_are_flattened_without_loaders(rt: HostRuntime) -> Result<(), Fail> {
-    let alloc = rt.alloc();
-    let rows: [(&[u8], &[u8], &[u8]); 14] = [
-        (
-            b"module m1\nimport m2; end\nend\nmodule m2\nimport m1; end\nend\n",
-            b"m1",
-            b"E08 5:8",
-        ),
-        (b"", b"eq", b"E07 4:8"),
-        (b"", b"bool[s]", b"E07 4:8"),
-        (b"", b"missing", b"E06 4:8"),
-        (b"", b"int", b"bool/- int/- "),
-        (b"", b"eq[t[s]] int", b"bool/- eq(t[s])/- int/- "),
-        (
-            b"module m end\nmodule n end module m end\n",
-            b"n",
-            b"E09 2:21",
-        ),
-        (b"module n end module eq end\n", b"n", b"E09 1:21"),
-        (
-            b"module n import missing; end end module m end\n",
-            b"m bool m",
-            b"m/0.1 bool/- ",
-        ),
-        (
-            b"module n[X] import m[X[X],t[X],X]; end end module m[A,B,C] end\n",
-            b"n[u[v]]",
-            b"m(X[u[v]])(t[u[v]])(u[v])/0.1 n(u[v])/0.0 ",
-        ),
-        (
-            b"module n[X] import m[X]; end end module m[A] end\n",
-            b"n[a] m[a] n[b]",
-            b"m(a)/0.1 n(a)/0.0 m(b)/0.1 n(b)/0.0 ",
-        ),
-        (b"module n import n; end end\n", b"n", b"E08 1:17"),
-        (
-            b"module n[X] import\nm; end end module m[A] end\n",
-            b"n[a]",
-            b"E07 2:1",
-        ),
-        (
-            b"module n[X]\nsort a\n  s[X,X,X,X,X,X,X,X,X,X,X,X,X,X,X,X,X,X,X,X,X,X,X,X,X,X,X,X,X,X,X,X]; end end\n",
-            b"n[u[v]]",
-            b"E14 3:3",
-        ),
-    ];
+/// Two loaders, of which the first is asked first.
+fn both(
+    alloc: Global,
+    first: MemoryLoader,
+    second: MemoryLoader,
+) -> Result<Vec<Box<dyn Loader>>, Fail> {
     let mut loaders: Vec<Box<dyn Loader>> = Vec::new(alloc);
-    for (modules, import, wanted) in rows {
-        let answer = flat(alloc, modules, import, &mut loaders)?;
-        assert_eq!(rt; shown(alloc, answer)?.as_slice(), wanted);
+    loaders.push(Box::new(alloc, first)?)?;
+    loaders.push(Box::new(alloc, second)?)?;
+    Ok(loaders)
+}
+
+/// What modules come to with these loaders, as text.
+fn told(
+    alloc: Global,
+    modules: &[u8],
+    import: &[u8],
+    loaders: &mut Vec<Box<dyn Loader>>,
+) -> Result<Vec<u8>, Fail> {
+    let answer = flat(alloc, modules, import, loaders)?;
+    shown(alloc, answer)
+}
+
+/// A module that needs lists of two sorts.
+const USES: &[u8] = b"module use\nimport global int list[int] list[bool]; end\nend\n";
+
+/// The names of the modules and the bytes of all texts but the first.
+fn loaded(alloc: Global, flat: &Flat) -> Result<Vec<u8>, Fail> {
+    let mut into = Vec::new(alloc);
+    if let [_, rest @ ..] = flat.texts.as_slice() {
+        for text in rest {
+            if let Some(name) = &text.module {
+                into.extend_from_slice(name.as_bytes())?;
+            }
+            into.extend_from_slice(text.bytes.as_slice())?;
+        }
     }
+    Ok(into)
+}
+
+#[test]
+fn a_text_is_kept_with_the_name_of_its_module(rt: HostRuntime) -> Result<(), Fail> {
+    let alloc = rt.alloc();
+    let mut loaders = both(
+        alloc,
+        memory(alloc, "list", LIST, &[])?,
+        memory(alloc, "list", CELL, &[1])?,
+    )?;
+    let flat = flat(alloc, USES, b"use", &mut loaders)?
+        .ok()
+        .ok_or("there is a flat program")?;
+    let found = loaded(alloc, &flat)?;
+    assert_eq!(rt;
+        found.as_slice().split_at(4.min(found.len())),
+        (b"list".as_slice(), LIST)
+    );
     Ok(())
 }
 
 #[test]
 fn the_first_loader_that_has_a_module_decides(rt: HostRuntime) -> Result<(), Fail> {
     let alloc = rt.alloc();
-    let mut loaders: Vec<Box<dyn Loader>> = Vec::new(alloc);
     // The second fetch of the first loader fails, and so does each one of the second.
-    loaders.push(Box::new(alloc, memory(alloc, "list", LIST, &[2])?)?)?;
-    loaders.push(Box::new(alloc, memory(alloc, "list", CELL, &[1])?)?)?;
-    let stream = b"module use\nimport global int list[int] list[bool]; end\nend\n";
-    let answer = flat(alloc, stream, b"use", &mut loaders)?;
-    let Ok(flat_program) = &answer else {
-        return Err("there is a flat program".into());
-    };
-    let [first, second] = flat_program.texts.as_slice() else {
-        return Err("there are two texts".into());
-    };
-    assert!(rt; first.module.is_none());
-    assert_eq!(rt;
-        second.module.as_ref().map(Name::as_bytes),
-        Some(b"list".as_slice())
-    );
-    assert_eq!(rt; second.bytes.as_slice(), LIST);
-    let wanted = b"bool/- int/- list(int)/1.0 list(bool)/1.0 use/0.0 ";
-    assert_eq!(rt; shown(alloc, answer)?.as_slice(), wanted.as_slice());
-    let answer = flat(alloc, stream, b"use", &mut loaders)?;
-    assert_eq!(rt;
-        shown(alloc, answer)?.as_slice(),
-        b"loader fault".as_slice()
-    );
+    let mut loaders = both(
+        alloc,
+        memory(alloc, "list", LIST, &[2])?,
+        memory(alloc, "list", CELL, &[1])?,
+    )?;
+    let rows = [
+        b"bool/- int/- list(int)/1.0 list(bool)/1.0 use/0.0 ".as_slice(),
+        b"loader fault",
+    ];
+    for wanted in rows {
+        let found = told(alloc, USES, b"use", &mut loaders)?;
+        assert_eq!(rt; found.as_slice(), wanted);
+    }
     Ok(())
+}
+
+/// How often each loader lacked a module.
+fn absences(alloc: Global, loaders: &[Box<dyn Loader>]) -> Result<Vec<u64>, Fail> {
+    let mut all = Vec::new(alloc);
+    for loader in loaders {
+        all.push(loader.absences())?;
+    }
+    Ok(all)
 }
 
 #[test]
 fn a_loader_is_asked_where_those_before_it_lack_the_module(rt: HostRuntime) -> Result<(), Fail> {
     let alloc = rt.alloc();
-    let mut loaders: Vec<Box<dyn Loader>> = Vec::new(alloc);
-    loaders.push(Box::new(alloc, memory(alloc, "other", CELL, &[])?)?)?;
-    loaders.push(Box::new(alloc, memory(alloc, "cell", CELL, &[])?)?)?;
-    let stream = b"module top\nimport cell[s]; end\nsort s; end\nend\n";
-    let answer = flat(alloc, stream, b"top", &mut loaders)?;
-    assert_eq!(rt;
-        shown(alloc, answer)?.as_slice(),
-        b"cell(s)/1.0 top/0.0 ".as_slice()
-    );
-    let answer = flat(alloc, stream, b"missing", &mut loaders)?;
-    assert_eq!(rt; shown(alloc, answer)?.as_slice(), b"E06 8:8".as_slice());
-    let answer = flat(alloc, b"", b"other[s]", &mut loaders)?;
-    assert_eq!(rt;
-        shown(alloc, answer)?.as_slice(),
-        b"E05 1:8 in other".as_slice()
-    );
-    let [first, second] = loaders.as_slice() else {
-        return Err("there are two loaders".into());
-    };
-    assert_eq!(rt; first.absences(), 2);
-    assert_eq!(rt; second.absences(), 1);
+    let mut loaders = both(
+        alloc,
+        memory(alloc, "other", CELL, &[])?,
+        memory(alloc, "cell", CELL, &[])?,
+    )?;
+    let stream = b"module top\nimport cell[s]; end\nsort s; end\nend\n".as_slice();
+    let rows = [
+        (
+            stream,
+            b"top".as_slice(),
+            b"cell(s)/1.0 top/0.0 ".as_slice(),
+        ),
+        (stream, b"missing", b"E06 8:8"),
+        (b"", b"other[s]", b"E05 1:8 in other"),
+    ];
+    for (modules, import, wanted) in rows {
+        let found = told(alloc, modules, import, &mut loaders)?;
+        assert_eq!(rt; found.as_slice(), wanted);
+    }
+    let found = absences(alloc, loaders.as_slice())?;
+    assert_eq!(rt; found.as_slice(), [2, 1].as_slice());
     Ok(())
 }
 
@@ -213,38 +215,18 @@ fn texts_together_have_a_limit(rt: HostRuntime) -> Result<(), Fail> {
     // The stream has 92 bytes.
     let blank = vec![in alloc; b' '; 4_194_212]?;
     let longer = vec![in alloc; b' '; 4_194_213]?;
-    let mut loaders: Vec<Box<dyn Loader>> = Vec::new(alloc);
-    loaders.push(Box::new(alloc, memory(alloc, "m", blank.as_slice(), &[])?)?)?;
-    loaders.push(Box::new(alloc, memory(alloc, "n", longer.as_slice(), &[])?)?)?;
-    let answer = flat(alloc, b"", b"m", &mut loaders)?;
-    assert_eq!(rt;
-        shown(alloc, answer)?.as_slice(),
-        b"E05 1:4194213 in m".as_slice()
-    );
-    let answer = flat(alloc, b"", b"n", &mut loaders)?;
-    assert_eq!(rt;
-        shown(alloc, answer)?.as_slice(),
-        b"E01 1:1 in n".as_slice()
-    );
-    Ok(())
-}
-
-#[test]
-fn there_are_at_most_256_instances(rt: HostRuntime) -> Result<(), Fail> {
-    let alloc = rt.alloc();
-    let mut stream = Vec::new(alloc);
-    for n in 1..257u32 {
-        let line = format!(in alloc; "module p{n} import p{next}; end end\n", next = n + 1)?;
-        stream.extend_from_slice(line.as_str().as_bytes())?;
+    let mut loaders = both(
+        alloc,
+        memory(alloc, "m", blank.as_slice(), &[])?,
+        memory(alloc, "n", longer.as_slice(), &[])?,
+    )?;
+    let rows = [
+        (b"m".as_slice(), b"E05 1:4194213 in m".as_slice()),
+        (b"n", b"E01 1:1 in n"),
+    ];
+    for (import, wanted) in rows {
+        let found = told(alloc, b"", import, &mut loaders)?;
+        assert_eq!(rt; found.as_slice(), wanted);
     }
-    stream.extend_from_slice(b"module p257 end\n")?;
-    let mut loaders: Vec<Box<dyn Loader>> = Vec::new(alloc);
-    let answer = flat(alloc, stream.as_slice(), b"p1", &mut loaders)?;
-    assert_eq!(rt; shown(alloc, answer)?.as_slice(), b"E14 256:20".as_slice());
-    let answer = flat(alloc, stream.as_slice(), b"p2", &mut loaders)?;
-    let Ok(flat_program) = answer else {
-        return Err("there is a flat program".into());
-    };
-    assert_eq!(rt; flat_program.instances.len(), 256);
     Ok(())
 }

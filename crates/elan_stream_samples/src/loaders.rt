@@ -24,17 +24,47 @@ fn a_text_is_put_behind_what_is_there(rt: HostRuntime) -> Result<(), Fail> {
     let mut into = b"; ".to_vec(alloc)?;
     assert_eq!(rt; loader.fetch("list", &mut into), Fetched::Found);
     assert_eq!(rt; into.as_slice(), b"; module list end".as_slice());
-    assert_eq!(rt; loader.fetch("lis", &mut into), Fetched::Absent);
-    assert_eq!(rt; loader.fetch("list", &mut into), Fetched::Failed);
-    assert_eq!(rt; loader.fetch("list", &mut into), Fetched::Found);
-    assert_eq!(rt; into.len(), 32);
-    assert_eq!(rt; loader.absences(), 1);
-    assert_eq!(rt; loader.faults(), 1);
-    let wanted = ["list", "lis", "list", "list"];
-    assert_eq!(rt; loader.asked().len(), wanted.len());
-    for (name, wanted) in loader.asked().iter().zip(wanted) {
-        assert_eq!(rt; name.as_str(), wanted);
+    Ok(())
+}
+
+#[test]
+fn each_fetch_is_counted(rt: HostRuntime) -> Result<(), Fail> {
+    let mut loader = one_text(rt.alloc())?;
+    let mut into = Vec::new(rt.alloc());
+    for (name, wanted) in [
+        ("list", Fetched::Found),
+        ("lis", Fetched::Absent),
+        ("list", Fetched::Failed),
+        ("list", Fetched::Found),
+    ] {
+        assert_eq!(rt; loader.fetch(name, &mut into), wanted);
     }
+    assert_eq!(rt;
+        (into.len(), loader.absences(), loader.faults()),
+        (30, 1, 1)
+    );
+    Ok(())
+}
+
+/// The names that a loader was asked for, with a space behind each.
+fn asked_of(alloc: Global, loader: &MemoryLoader) -> Result<String, Fail> {
+    let mut all = String::new(alloc);
+    for name in loader.asked() {
+        all.push_str(name.as_str())?;
+        all.push(' ')?;
+    }
+    Ok(all)
+}
+
+#[test]
+fn a_loader_keeps_the_names_that_it_was_asked_for(rt: HostRuntime) -> Result<(), Fail> {
+    let mut loader = one_text(rt.alloc())?;
+    let mut into = Vec::new(rt.alloc());
+    for name in ["list", "lis", "list"] {
+        loader.fetch(name, &mut into);
+    }
+    let found = asked_of(rt.alloc(), &loader)?;
+    assert_eq!(rt; found.as_str(), "list lis list ");
     Ok(())
 }
 
@@ -47,40 +77,49 @@ fn ask_all(loaders: &mut Vec<Box<dyn Loader>>, into: &mut Vec<u8>) {
     }
 }
 
-#[test]
-fn loaders_stand_in_a_list(rt: HostRuntime) -> Result<(), Fail> {
+/// A loader from memory, and one from a folder that is not there.
+fn two(rt: HostRuntime) -> Result<Vec<Box<dyn Loader>>, Fail> {
     let alloc = rt.alloc();
     let mut loaders: Vec<Box<dyn Loader>> = Vec::new(alloc);
     loaders.push(Box::new(alloc, one_text(alloc)?)?)?;
-    loaders.push(Box::new(
-        alloc,
-        FolderLoader::new(rt, String::from_str(alloc, "none")?),
-    )?)?;
-    let mut into = Vec::new(alloc);
+    let folder = FolderLoader::new(rt, String::from_str(alloc, "none")?);
+    loaders.push(Box::new(alloc, folder)?)?;
+    Ok(loaders)
+}
+
+#[test]
+fn loaders_stand_in_a_list(rt: HostRuntime) -> Result<(), Fail> {
+    let mut loaders = two(rt)?;
+    let mut into = Vec::new(rt.alloc());
     ask_all(&mut loaders, &mut into);
     assert_eq!(rt; into.as_slice(), b"module list end".as_slice());
-    let [first, second] = loaders.as_slice() else {
-        return Err("there are two loaders".into());
-    };
-    assert_eq!(rt; first.absences(), 0);
-    assert_eq!(rt; second.absences(), 1);
+    for (loader, wanted) in loaders.as_slice().iter().zip([0u64, 1]) {
+        assert_eq!(rt; loader.absences(), wanted);
+    }
     Ok(())
+}
+
+/// A folder with one text and a folder in it that has the name of a text.
+fn folder(rt: HostRuntime) -> Result<FolderLoader<HostRuntime>, Fail> {
+    fs::create_dir(&rt, "modules")?;
+    fs::write(&rt, "modules/list.eln", "module list end")?;
+    fs::create_dir(&rt, "modules/folder.eln")?;
+    Ok(FolderLoader::new(rt, String::from_str(rt.alloc(), "modules")?))
 }
 
 #[test]
 fn a_folder_has_the_texts_of_its_files(rt: HostRuntime) -> Result<(), Fail> {
-    let alloc = rt.alloc();
-    fs::create_dir(&rt, "modules")?;
-    fs::write(&rt, "modules/list.eln", "module list end")?;
-    fs::create_dir(&rt, "modules/folder.eln")?;
-    let mut loader = FolderLoader::new(rt, String::from_str(alloc, "modules")?);
-    let mut into = b"; ".to_vec(alloc)?;
-    assert_eq!(rt; loader.fetch("list", &mut into), Fetched::Found);
-    assert_eq!(rt; loader.fetch("nothing", &mut into), Fetched::Absent);
-    assert_eq!(rt; loader.fetch("folder", &mut into), Fetched::Failed);
+    let mut loader = folder(rt)?;
+    let mut into = b"; ".to_vec(rt.alloc())?;
+    for (name, wanted) in [
+        ("list", Fetched::Found),
+        ("nothing", Fetched::Absent),
+        ("folder", Fetched::Failed),
+    ] {
+        assert_eq!(rt; loader.fetch(name, &mut into), wanted);
+    }
     assert_eq!(rt; into.as_slice(), b"; module list end".as_slice());
-    assert_eq!(rt; loader.absences(), 1);
-    assert_eq!(rt; loader.faults(), 1);
+    assert_eq!(rt; (loader.absences(), loader.faults()), (1, 1));
     fs::remove_dir_all(&rt, "modules")?;
     Ok(())
 }
